@@ -1,0 +1,9 @@
+pub mod Ring
+pub mod Semiring
+pub mod Order
+pub mod Identities
+pub mod Sums
+pub mod Cauchy
+pub mod Least
+pub mod Rounding
+pub mod Roots

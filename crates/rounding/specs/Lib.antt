@@ -1,0 +1,4 @@
+pub mod Least
+pub mod Rounding
+pub mod Roots
+pub mod Sums
