@@ -1,0 +1,23 @@
+// The period of a building, the acceleration there, and the code base shear.
+ghost use Rattle.base_shear.specs.Accelerations.{AccelerationLaw};
+ghost use Rattle.base_shear.specs.Periods.{PeriodLaw};
+ghost use Rattle.base_shear.specs.Samples.{Samples};
+
+pub mod acceleration;
+pub mod period;
+mod tables;
+
+// The laws of the definitions that contracts cite, as theorems that a check asks for.
+pub fn base_shear_laws_stand() -> u8
+    ensures periods { λ _. ⌜ PeriodLaw ⌝ }
+    ensures accelerations { λ _. ⌜ AccelerationLaw ⌝ }
+{
+    0
+}
+
+// Worked figures, which the definitions give.
+pub fn samples_stand() -> u8
+    ensures { λ _. ⌜ Samples ⌝ }
+{
+    0
+}

@@ -1,0 +1,2 @@
+pub mod Spectra
+pub mod Curves
