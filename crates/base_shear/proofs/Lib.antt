@@ -1,3 +1,4 @@
 pub mod Periods
 pub mod FrameTables
 pub mod Accelerations
+pub mod SampleFigures

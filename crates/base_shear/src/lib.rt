@@ -1,7 +1,6 @@
 // The period of a building, the acceleration there, and the code base shear.
 ghost use Rattle.base_shear.specs.Accelerations.{AccelerationLaw};
 ghost use Rattle.base_shear.specs.Periods.{PeriodLaw};
-ghost use Rattle.base_shear.specs.Samples.{Samples};
 
 pub mod acceleration;
 pub mod period;
@@ -11,13 +10,6 @@ mod tables;
 pub fn base_shear_laws_stand() -> u8
     ensures periods { λ _. ⌜ PeriodLaw ⌝ }
     ensures accelerations { λ _. ⌜ AccelerationLaw ⌝ }
-{
-    0
-}
-
-// Worked figures, which the definitions give.
-pub fn samples_stand() -> u8
-    ensures { λ _. ⌜ Samples ⌝ }
 {
     0
 }

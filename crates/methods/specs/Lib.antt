@@ -1,0 +1,5 @@
+pub mod Loads
+pub mod Shapes
+pub mod Refusals
+pub mod Outcomes
+pub mod Views

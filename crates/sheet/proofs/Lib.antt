@@ -1,0 +1,10 @@
+pub mod Sums
+pub mod FloorLists
+pub mod ModeLists
+pub mod Ordinates
+pub mod Shifts
+pub mod Sheets
+pub mod Judged
+pub mod Counted
+pub mod Runs
+pub mod Standing

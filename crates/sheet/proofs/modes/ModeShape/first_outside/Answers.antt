@@ -1,0 +1,41 @@
+use mathlib.Core.Path.{_≡_, refl, sym, ap, subst, _∙_}
+use Prim.Native.Nat.{ℕ, _+_, _<_, _≤_}
+use native.Mathlib.Omega.{arith}
+use borrow.Author.Needs.{needs}
+use lib.IntN.{ℤ, pos, natAbs}
+use lib.ListN.{length, getD, drop, take}
+use mir.Syntax.{w16}
+use mir.Val.{SFits}
+use Rattle.sheet.specs.Modes.{typed, firstOutside}
+use Rattle.sheet.proofs.Ordinates.{first-found, first-passed, first-none, typed-length, typed-size}
+use Rattle.sheet.proofs.modes.ModeShape.first_outside.Needs as need
+
+pub returns-then-unsigned-abs-gt4000 : need.returns-then-unsigned-abs-gt4000
+returns-then-unsigned-abs-gt4000 c =
+    let m = c .args .self .now in
+    let i = c .loop-i .i in
+    let long : length (c .args .self .now .ordinates) ≡ 40 = search needs in
+    let fits : SFits w16 (getD (c .args .self .now .ordinates) (c .loop-i .i) (pos 0)) = search needs in
+    let size = typed-size (m .ordinates) (m .count) i long (c .unsigned-abs .result) (omega (arith, c .loop-i-test .taken, c .min-places .ensures)) fits (c .unsigned-abs .ensures .value) in
+    let n = typed-length (m .ordinates) (m .count) i long in
+    let found = first-found (typed m) i (omega (arith, n, c .min-places .ensures)) (i + 1) (omega (arith, size)) in
+    omega (arith, found, c .loop-i .inv .0, c .loop-i .inv .1)
+
+pub loop-i-again : need.loop-i-again
+loop-i-again c =
+    let m = c .args .self .now in
+    let i = c .loop-i .i in
+    let long : length (c .args .self .now .ordinates) ≡ 40 = search needs in
+    let fits : SFits w16 (getD (c .args .self .now .ordinates) (c .loop-i .i) (pos 0)) = search needs in
+    let size = typed-size (m .ordinates) (m .count) i long (c .unsigned-abs .result) (omega (arith, c .loop-i-test .taken, c .min-places .ensures)) fits (c .unsigned-abs .ensures .value) in
+    let n = typed-length (m .ordinates) (m .count) i long in
+    let passed = first-passed (typed m) i (omega (arith, n, c .min-places .ensures)) (i + 1) (omega (arith, size)) in
+    (omega arith, sym passed ∙ c .loop-i .inv .1)
+
+pub returns : need.returns
+returns c =
+    let m = c .args .self .now in
+    let i = c .loop-i .i in
+    let long : length (c .args .self .now .ordinates) ≡ 40 = search needs in
+    let n = typed-length (m .ordinates) (m .count) i long in
+    sym (first-none (typed m) i (i + 1) (omega (arith, n, c .min-places .ensures))) ∙ c .loop-i .inv .1

@@ -1,0 +1,11 @@
+pub mod Floors
+pub mod Modes
+pub mod Stages
+pub mod Contents
+pub mod Ledgers
+pub mod Readings
+pub mod Answers
+pub mod Carried
+pub mod Histories
+pub mod Faultless
+pub mod Samples
