@@ -1,14 +1,8 @@
-// Works one building through: a four-storey office building in zone III.
-use base_shear::acceleration::acceleration;
-use base_shear::acceleration::code_base_shear;
-use base_shear::period::natural_period;
+// Works a building through its sheet: a four-storey office building in zone III.
+use sheet::Sheet;
 use spectra::spectrum::CodeCurve;
 use spectra::spectrum::CodeCurveSpectrum;
 use standard::fault::Fault;
-use standard::fault::Ground;
-use standard::fraction::Fraction;
-use standard::measures::Height;
-use standard::measures::Period;
 use standard::site::Site;
 use standard::values::SiteValues;
 use std::error::AnyError;
@@ -23,57 +17,57 @@ const OFFICE: SiteValues = SiteValues {
     base: 225,
 };
 
-// In tenths of a kilonewton: three floors of 3619 kN each, and a roof of 2793.5 kN.
-const WEIGHT: u32 = 3 * 36190 + 27935;
+// Heights in decimetres and weights in tenths of a kilonewton. The third is lower than the one below it.
+const FLOORS: [(u16, u32); 5] = [
+    (30, 36190),
+    (60, 36190),
+    (55, 36190),
+    (90, 36190),
+    (120, 27935),
+];
 
-// What is printed of a building.
-#[derive(Clone, Copy)]
-struct Figures {
-    period: u32,
-    acceleration: Fraction,
-    base_shear: u64,
+// Prints why a call was refused.
+fn report(rt: &impl Print, what: &str, answer: Result<(), Fault>) -> Result<(), AnyError> {
+    if let Err(fault) = answer {
+        let number = fault.ground.number();
+        let place = fault.place;
+        println!(rt, "{what} refused {number} {place}")?;
+    }
+    Ok(())
 }
 
-fn work_through(values: &SiteValues, roof: Height, weight: u32) -> Result<Figures, Fault> {
-    let site = Site::accept(values)?;
-    let spectrum = CodeCurve {
-        soil: site.terms.soil,
+// Prints the base shear, and from the roof down each storey with its design shear and force.
+fn print_storeys(rt: &impl Print, sheet: &Sheet) -> Result<(), AnyError> {
+    let Some((_, base, _)) = sheet.reading(1) else {
+        println!(rt, "none")?;
+        return Ok(());
     };
-    let base_shear = code_base_shear(&site, &spectrum, roof, weight)?;
-    let period = natural_period(&site, roof);
-    let Some(at) = Period::new(period) else {
-        return Err(Fault {
-            ground: Ground::PeriodTooLong,
-            place: period,
-        });
-    };
-    Ok(Figures {
-        period,
-        acceleration: acceleration(&site, &spectrum, at).lowest_terms(),
-        base_shear,
-    })
-}
-
-fn run(rt: &impl Print) -> Result<(), AnyError> {
-    match work_through(&OFFICE, Height { decimetres: 120 }, WEIGHT) {
-        Ok(f) => {
-            let period = f.period;
-            let numerator = f.acceleration.numerator;
-            let denominator = f.acceleration.denominator;
-            let base_shear = f.base_shear;
-            println!(rt, "period {period}")?;
-            println!(rt, "acceleration {numerator}/{denominator}")?;
-            println!(rt, "base {base_shear}")?;
-        }
-        Err(fault) => {
-            let number = fault.ground.number();
-            let place = fault.place;
-            println!(rt, "refused {number} {place}")?;
+    println!(rt, "base {base}")?;
+    for storey in (1..=40u8).rev() {
+        if let Some((_, design, force)) = sheet.reading(storey) {
+            println!(rt, "{storey} {design} {force}")?;
         }
     }
     Ok(())
 }
 
+fn work(rt: &impl Print) -> Result<(), AnyError> {
+    let Ok(site) = Site::accept(&OFFICE) else {
+        return Err("the site was refused".into());
+    };
+    let curve = CodeCurve {
+        soil: site.terms.soil,
+    };
+    let mut sheet = Sheet::new();
+    for (height, weight) in FLOORS {
+        report(rt, "floor", sheet.floor(height, weight))?;
+    }
+    report(rt, "reweigh", sheet.reweigh(2, 40000))?;
+    report(rt, "reweigh", sheet.reweigh(2, 36190))?;
+    report(rt, "static", sheet.run_static(&site, &curve))?;
+    print_storeys(rt, &sheet)
+}
+
 fn main(rt: LibcRuntime) -> Result<(), AnyError> {
-    rt.report(run(&rt))
+    rt.report(work(&rt))
 }
