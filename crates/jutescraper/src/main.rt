@@ -1,4 +1,10 @@
-// Works a building through its sheet: a four-storey office building in zone III.
+// Works two buildings through their sheets: a four-storey office building and a two-storey frame, both in zone III.
+use combination::AbsoluteSum;
+use combination::AbsoluteSumRule;
+use combination::Rule;
+use combination::SumOfSquares;
+use combination::SumOfSquaresRule;
+use sheet::ModeShape;
 use sheet::Sheet;
 use spectra::spectrum::CodeCurve;
 use spectra::spectrum::CodeCurveSpectrum;
@@ -18,13 +24,23 @@ const OFFICE: SiteValues = SiteValues {
 };
 
 // Heights in decimetres and weights in tenths of a kilonewton. The third is lower than the one below it.
-const FLOORS: [(u16, u32); 5] = [
+const OFFICE_FLOORS: [(u16, u32); 5] = [
     (30, 36190),
     (60, 36190),
     (55, 36190),
     (90, 36190),
     (120, 27935),
 ];
+
+const FRAME: SiteValues = SiteValues {
+    zone: 3,
+    soil: 1,
+    importance: 10,
+    system: 2,
+    formula: 1,
+    plan: 0,
+    base: 0,
+};
 
 // Prints why a call was refused.
 fn report(rt: &impl Print, what: &str, answer: Result<(), Fault>) -> Result<(), AnyError> {
@@ -51,21 +67,62 @@ fn print_storeys(rt: &impl Print, sheet: &Sheet) -> Result<(), AnyError> {
     Ok(())
 }
 
-fn work(rt: &impl Print) -> Result<(), AnyError> {
-    let Ok(site) = Site::accept(&OFFICE) else {
-        return Err("the site was refused".into());
-    };
+fn accepted(values: &SiteValues) -> Result<Site, AnyError> {
+    match Site::accept(values) {
+        Ok(site) => Ok(site),
+        Err(_) => Err("the site was refused".into()),
+    }
+}
+
+// The office building by the static method, with a floor that is refused and a reweigh there and back.
+fn work_office(rt: &impl Print) -> Result<(), AnyError> {
+    let site = accepted(&OFFICE)?;
     let curve = CodeCurve {
         soil: site.terms.soil,
     };
     let mut sheet = Sheet::new();
-    for (height, weight) in FLOORS {
+    println!(rt, "office, static")?;
+    for (height, weight) in OFFICE_FLOORS {
         report(rt, "floor", sheet.floor(height, weight))?;
     }
     report(rt, "reweigh", sheet.reweigh(2, 40000))?;
     report(rt, "reweigh", sheet.reweigh(2, 36190))?;
     report(rt, "static", sheet.run_static(&site, &curve))?;
     print_storeys(rt, &sheet)
+}
+
+fn shape(period: u16, lower: i16, upper: i16) -> ModeShape {
+    let mut ordinates = [0; 40];
+    ordinates[0] = lower;
+    ordinates[1] = upper;
+    ModeShape {
+        period,
+        count: 2,
+        ordinates,
+    }
+}
+
+// The frame by the modal method.
+fn work_frame<R: Rule>(rt: &impl Print, rule: &R) -> Result<(), AnyError> {
+    let site = accepted(&FRAME)?;
+    let curve = CodeCurve {
+        soil: site.terms.soil,
+    };
+    let mut sheet = Sheet::new();
+    report(rt, "floor", sheet.floor(30, 20000))?;
+    report(rt, "floor", sheet.floor(60, 20000))?;
+    report(rt, "mode", sheet.mode(&shape(500, 618, 1000)))?;
+    report(rt, "mode", sheet.mode(&shape(190, 1000, -618)))?;
+    report(rt, "modal", sheet.run_modal(&site, &curve, rule))?;
+    print_storeys(rt, &sheet)
+}
+
+fn work(rt: &impl Print) -> Result<(), AnyError> {
+    work_office(rt)?;
+    println!(rt, "frame, modal, sum of squares")?;
+    work_frame(rt, &SumOfSquares)?;
+    println!(rt, "frame, modal, absolute sum")?;
+    work_frame(rt, &AbsoluteSum)
 }
 
 fn main(rt: LibcRuntime) -> Result<(), AnyError> {

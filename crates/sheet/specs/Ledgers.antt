@@ -14,21 +14,24 @@ use Rattle.standard.specs.declared.fraction.Fraction.{Fraction}
 use Rattle.standard.specs.declared.terms.SiteTerms.{SiteTerms}
 use Rattle.standard.specs.Faults.{Refusal, refusal, Verdict, verdict}
 use Rattle.standard.specs.Sites.{within}
+use Rattle.combination.specs.declared.response.Response.{Response}
 use Rattle.formulas.specs.declared.floor.Floor.{Floor}
 use Rattle.formulas.specs.Buildings.{Mode, W, heaviest}
 use Rattle.methods.specs.Loads.{mostFloors, roofOf}
+use Rattle.methods.specs.ModalRuns.{modalRefusals}
 use Rattle.methods.specs.Refusals.{staticRefusals}
 use Rattle.sheet.specs.Floors.{weightAt, grown, reweighed, counted}
 use Rattle.methods.specs.Shapes.{mostModes, allZero}
 use Rattle.sheet.specs.Modes.{firstOutside, notBelowLast, without}
 
--- a call with what it was made with: a run with the terms of its site and the meaning of its spectrum
+-- a call with what it was made with: a run with the terms of its site and the meanings of its spectrum and rule
 pub data Asked : Type 0 where
   floor : ℕ → ℕ → Asked
   reweigh : ℕ → ℕ → Asked
   mode : ℕ → ℕ → List ℤ → Asked
   strike : ℕ → Asked
   static : SiteTerms → (ℕ → Fraction) → Asked
+  modal : SiteTerms → (ℕ → Fraction) → (List Response → ℕ) → Asked
 
 -- ---- what is refused, in the order in which it is tried
 
@@ -68,6 +71,7 @@ refusals fs ms (reweigh i w) = reweighGrounds (length fs) (W fs) (weightAt fs (i
 refusals fs ms (mode p c ys) = modeGrounds (length fs) (length ms) p c (notBelowLast p ms) (firstOutside 1 ys) (allZero ys)
 refusals fs ms (strike k) = strikeGrounds (length ms) k
 refusals fs ms (static s sa) = staticRefusals s (counted fs)
+refusals fs ms (modal s sa q) = modalRefusals s sa q (counted fs) ms
 
 -- ---- what an accepted call leaves
 
@@ -77,6 +81,7 @@ floorsAfter fs (reweigh i w) = reweighed fs (i - 1) w
 floorsAfter fs (mode p n ys) = fs
 floorsAfter fs (strike k) = fs
 floorsAfter fs (static s sa) = fs
+floorsAfter fs (modal s sa q) = fs
 
 abbrev pub entered : List Mode → ℕ → List ℤ → List Mode
 entered ms p ys = ms ++ (record { period = p; ordinates = ys } ∷ [])
@@ -87,6 +92,7 @@ modesAfter ms (reweigh i w) = ms
 modesAfter ms (mode p n ys) = entered ms p ys
 modesAfter ms (strike k) = without ms (k - 1)
 modesAfter ms (static s sa) = ms
+modesAfter ms (modal s sa q) = ms
 
 -- ---- the ledger
 

@@ -10,10 +10,11 @@ use Rattle.standard.specs.Sites.{within}
 use Rattle.formulas.specs.declared.floor.Floor.{Floor}
 use Rattle.formulas.specs.Buildings.{Mode}
 use Rattle.formulas.specs.Forces.{forceOf}
+use Rattle.methods.specs.ModalRuns.{modalCombined, modalDesign}
 use Rattle.methods.specs.Outcomes.{staticShears}
 use Rattle.sheet.specs.Contents.{Reading}
 use Rattle.sheet.specs.Floors.{counted}
-use Rattle.sheet.specs.Ledgers.{Asked, floor, reweigh, mode, strike, static, Ledger}
+use Rattle.sheet.specs.Ledgers.{Asked, floor, reweigh, mode, strike, static, modal, Ledger}
 
 -- of n storeys with combined shears c and design shears d, what is read of storey i
 abbrev pub shown : ℕ → (ℕ → ℕ) → (ℕ → ℕ) → ℕ → Reading
@@ -26,6 +27,7 @@ readAfter fs ms (reweigh k w) i = None
 readAfter fs ms (mode p n ys) i = None
 readAfter fs ms (strike k) i = None
 readAfter fs ms (static s sa) i = shown (length fs) (staticShears s sa (counted fs)) (staticShears s sa (counted fs)) i
+readAfter fs ms (modal s sa q) i = shown (length fs) (modalCombined s sa q (counted fs) ms) (modalDesign s sa q (counted fs) ms) i
 
 abbrev pub expectedBy : List Floor → List Mode → Option Asked → ℕ → Reading
 expectedBy fs ms None i = None

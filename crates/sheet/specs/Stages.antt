@@ -8,7 +8,7 @@ use Rattle.methods.specs.Outcomes.{Differences}
 use Rattle.sheet.specs.declared.stage.Stage.{Stage}
 use Rattle.sheet.specs.declared.stage.Stage.the-variants.{Draft, Static, Modal}
 use Rattle.sheet.specs.declared.stage.Action.{Action}
-use Rattle.sheet.specs.declared.stage.Action.the-variants.{Edit, RunStatic}
+use Rattle.sheet.specs.declared.stage.Action.the-variants.{Edit, RunStatic, RunModal}
 
 -- forces stand on the sheet
 abbrev pub isRun : Stage → Bool
@@ -20,6 +20,7 @@ isRun Modal = true
 abbrev pub stageAfter : Action → Stage
 stageAfter Edit = Draft
 stageAfter RunStatic = Static
+stageAfter RunModal = Modal
 
 -- where forces stand, each is the difference of two design shears
 abbrev pub Forced : Stage → ℕ → List ℕ → List ℤ → Type 0

@@ -8,4 +8,5 @@ pub enum Call {
     Mode { shape: ModeShape },
     Strike { mode: u8 },
     Static,
+    Modal,
 }

@@ -15,6 +15,7 @@ pub enum Stage {
 pub enum Action {
     Edit,
     RunStatic,
+    RunModal,
 }
 
 impl Stage {
@@ -27,6 +28,8 @@ impl Stage {
             (Stage::Static | Stage::Modal, Action::Edit) => Stage::Draft,
             (Stage::Static, Action::RunStatic) => Stage::Static,
             (Stage::Draft | Stage::Modal, Action::RunStatic) => Stage::Static,
+            (Stage::Modal, Action::RunModal) => Stage::Modal,
+            (Stage::Draft | Stage::Static, Action::RunModal) => Stage::Modal,
         }
     }
 }

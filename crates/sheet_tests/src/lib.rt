@@ -2,6 +2,10 @@
 
 #[cfg(test)]
 mod tests {
+    use combination::AbsoluteSum;
+    use combination::AbsoluteSumRule;
+    use combination::SumOfSquares;
+    use combination::SumOfSquaresRule;
     use sheet::Call;
     use sheet::ModeShape;
     use sheet::Sheet;
@@ -224,11 +228,63 @@ mod tests {
             },
             Call::Static,
         ];
-        let sheet = run(&site, &CURVE, &calls);
+        let sheet = run(&site, &CURVE, &SumOfSquares, &calls);
         check_eq(sheet.reading(1), Some((9100, 9100, 345)))?;
         check_eq(sheet.reading(2), Some((8755, 8755, 1382)))?;
         check_eq(sheet.reading(3), Some((7373, 7373, 3108)))?;
         check_eq(sheet.reading(4), Some((4265, 4265, 4265)))?;
         check_eq(sheet.reading(5), None)
+    }
+
+    // A sheet of the two-storey frame, with its slower mode or without.
+    fn frame(slow: bool) -> Sheet {
+        let mut sheet = Sheet::new();
+        let _ = sheet.floor(30, 20000);
+        let _ = sheet.floor(60, 20000);
+        let mut first = shape(500, 2, 618);
+        first.ordinates[1] = 1000;
+        let mut second = shape(190, 2, 1000);
+        second.ordinates[1] = -618;
+        if slow {
+            let _ = sheet.mode(&first);
+        }
+        let _ = sheet.mode(&second);
+        sheet
+    }
+
+    #[test]
+    fn modal_runs() -> Result<(), Fail> {
+        let values = SiteValues {
+            zone: 3,
+            soil: 1,
+            importance: 10,
+            system: 2,
+            formula: 1,
+            plan: 0,
+            base: 0,
+        };
+        let Ok(site) = Site::accept(&values) else {
+            return Err(Fail::new("the site was refused"));
+        };
+        let hard = CodeCurve { soil: Soil::Hard };
+        let mut sheet = frame(true);
+        check_eq(told(sheet.run_modal(&site, &hard, &SumOfSquares)), (0, 0))?;
+        check_eq(sheet.reading(1), Some((1215, 1600, 598)))?;
+        check_eq(sheet.reading(2), Some((761, 1002, 1002)))?;
+        check_eq(told(sheet.run_modal(&site, &hard, &AbsoluteSum)), (0, 0))?;
+        check_eq(sheet.reading(1), Some((1296, 1600, 506)))?;
+        check_eq(sheet.reading(2), Some((886, 1094, 1094)))?;
+        check_eq(
+            told(frame(false).run_modal(&site, &hard, &SumOfSquares)),
+            (22, 2112),
+        )?;
+        check_eq(
+            told(tower(2).run_modal(&site, &hard, &SumOfSquares)),
+            (22, 0),
+        )?;
+        check_eq(
+            told(Sheet::new().run_modal(&site, &hard, &SumOfSquares)),
+            (19, 0),
+        )
     }
 }

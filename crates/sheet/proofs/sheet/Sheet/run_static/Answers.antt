@@ -54,7 +54,7 @@ returns-in-Break-outcome g c =
     let t = c .args .site .now .terms in
     let sa = g .C·Spectrum .ordinate (c .args .spectrum .now) in
     let p = err-from-errBy (c .from-residual .result) (c .from-residual .ensures .1) in
-    let v = answer s t sa (loadsOf (c .loads-of .result)) (c .loads-of .ensures) (Err (c .in-Break-outcome .field-0 .0)) (c .in-Break-outcome .ensures tt) in
+    let v = answer s t sa (loadsOf (c .loads-of .result)) (c .loads-of .ensures .floors) (Err (c .in-Break-outcome .field-0 .0)) (c .in-Break-outcome .ensures tt) in
     refused s (static t sa) (c .from-residual .result) (p .0) (p .1) (ap Err (p .2) ∙ sym v)
 
 pub ghost-self : need.ghost-self
@@ -62,7 +62,7 @@ ghost-self g c =
     let s = c .args .self .now in
     let t = c .args .site .now .terms in
     let sa = g .C·Spectrum .ordinate (c .args .spectrum .now) in
-    let o = gives s t sa (loadsOf (c .loads-of .result)) (c .loads-of .ensures) (c .in-Continue-outcome .outcome) (c .in-Continue-outcome .ensures tt) in
+    let o = gives s t sa (loadsOf (c .loads-of .result)) (c .loads-of .ensures .floors) (c .in-Continue-outcome .outcome) (c .in-Continue-outcome .ensures tt) in
     (s .few, (s .held, (s .rising, (s .ranged, (s .summed, (s .light, (s .«modes_few», (s .«modes_held», (s .falling, (s .moving, (λ _. o .forces, tt)))))))))))
 
 pub returns : need.returns
@@ -72,7 +72,7 @@ returns g c =
     let sa = g .C·Spectrum .ordinate (c .args .spectrum .now) in
     let fs = loadsOf (c .loads-of .result) in
     let o = c .in-Continue-outcome .outcome in
-    let h = gives s t sa fs (c .loads-of .ensures) o (c .in-Continue-outcome .ensures tt) in
-    let v = answer s t sa fs (c .loads-of .ensures) (Ok o) (c .in-Continue-outcome .ensures tt) in
+    let h = gives s t sa fs (c .loads-of .ensures .floors) o (c .in-Continue-outcome .ensures tt) in
+    let v = answer s t sa fs (c .loads-of .ensures .floors) (Ok o) (c .in-Continue-outcome .ensures tt) in
     let shears = staticShears t sa (counted (floorsIn s)) in
     ran-to s _ (static t sa) shears shears o (sym (v .0)) refl refl (ap isRun (c .after .ensures)) refl refl refl h (λ i. ap (λ (n : ℕ). shown n shears shears i) (sym (s .held)))

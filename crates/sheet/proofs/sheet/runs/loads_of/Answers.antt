@@ -4,4 +4,4 @@ use Rattle.sheet.proofs.sheet.runs.loads_of.Needs as need
 
 pub returns : need.returns
 unfolding counted
-returns c = refl
+returns c = record { floors = refl; count = refl }
