@@ -1,0 +1,2 @@
+pub mod FirstOrdinates
+pub mod Readings
