@@ -51,7 +51,7 @@ use Rattle.sheet.specs.declared.sheet.Sheet.{Sheet}
 use Rattle.sheet.specs.Answers.{Answers, Stands}
 use Rattle.sheet.specs.Carried.{Carried}
 use Rattle.sheet.specs.Contents.{Reading, floorsIn, modesIn, readingOf}
-use Rattle.sheet.specs.Faultless.{combinedIn, designIn, forceIn, AddUp, ShearsNear, KeptAfter, Faultless, Fair}
+use Rattle.sheet.specs.Faultless.{combinedIn, designIn, forceIn, AddUp, ShearsNear, KeptAfter, Faultless, Fair, LastFair, FairLedger}
 use Rattle.sheet.specs.Floors.{counted}
 use Rattle.sheet.specs.Histories.{asked}
 use Rattle.sheet.specs.Ledgers.{Asked, floor, reweigh, mode, strike, static, modal, Ledger, refusals, floorsAfter, modesAfter, verdictOn, stepBy, step}
@@ -77,19 +77,6 @@ carried s s′ ℓ a r st h =
     (e, carried-by s s′ ℓ a r (verdictOn ℓ a) st h e)
 
 -- ---- what the last call was made with
-
--- where the last call is a run, it was fair, and on these floors and modes nothing refuses it
-abbrev pub LastFair : List Floor → List Mode → Option Asked → Type 0
-LastFair fs ms None = Unit {0}
-LastFair fs ms (Some (floor h w)) = Unit {0}
-LastFair fs ms (Some (reweigh k w)) = Unit {0}
-LastFair fs ms (Some (mode p n ys)) = Unit {0}
-LastFair fs ms (Some (strike k)) = Unit {0}
-LastFair fs ms (Some (static t sa)) = Fair (static t sa) × (verdict (refusals fs ms (static t sa)) ≡ Ok tt)
-LastFair fs ms (Some (modal t sa q)) = Fair (modal t sa q) × (verdict (refusals fs ms (modal t sa q)) ≡ Ok tt)
-
-abbrev pub FairLedger : Ledger → Type 0
-FairLedger ℓ = LastFair (ℓ .floors) (ℓ .modes) (ℓ .last)
 
 fair-by : (ℓ : Ledger) (a : Asked) (v : Verdict) → Fair a → FairLedger ℓ → verdictOn ℓ a ≡ v → FairLedger (stepBy v ℓ a)
 fair-by ℓ (floor h w) (Ok u) f l e = tt

@@ -6,8 +6,10 @@ use lib.IntN.{ℤ, pos}
 use lib.ListN.{length}
 use Rattle.std.specs.declared.option.Option.{Option}
 use Rattle.std.specs.declared.option.Option.the-variants.{Some, None}
+use Rattle.std.specs.declared.result.Result.the-variants.{Ok}
 use Rattle.standard.specs.declared.fraction.Fraction.{Fraction}
 use Rattle.standard.specs.declared.terms.SiteTerms.{SiteTerms}
+use Rattle.standard.specs.Faults.{verdict}
 use Rattle.spectra.specs.Spectra.{SpectrumLaw}
 use Rattle.base_shear.specs.Accelerations.{accelerationAt, accelerationOf}
 use Rattle.base_shear.specs.Periods.{BaseGoes}
@@ -25,7 +27,7 @@ use Rattle.sheet.specs.declared.sheet.Sheet.{Sheet}
 use Rattle.sheet.specs.Answers.{Stands}
 use Rattle.sheet.specs.Contents.{Reading, readingOf}
 use Rattle.sheet.specs.Floors.{counted}
-use Rattle.sheet.specs.Ledgers.{Asked, floor, reweigh, mode, strike, static, modal, Ledger}
+use Rattle.sheet.specs.Ledgers.{Asked, floor, reweigh, mode, strike, static, modal, Ledger, refusals}
 
 -- the shears and the force of a reading, 0 where there is none
 abbrev pub combinedIn : Reading → ℕ
@@ -88,3 +90,16 @@ Fair (mode p n ys) = Unit {0}
 Fair (strike k) = Unit {0}
 Fair (static t sa) = SpectrumLaw sa × BaseGoes (t .formula)
 Fair (modal t sa q) = SpectrumLaw sa × BaseGoes (t .formula) × Laws q
+
+-- where the last call is a run, it was fair, and on these floors and modes nothing refuses it
+abbrev pub LastFair : List Floor → List Mode → Option Asked → Type 0
+LastFair fs ms None = Unit {0}
+LastFair fs ms (Some (floor h w)) = Unit {0}
+LastFair fs ms (Some (reweigh k w)) = Unit {0}
+LastFair fs ms (Some (mode p n ys)) = Unit {0}
+LastFair fs ms (Some (strike k)) = Unit {0}
+LastFair fs ms (Some (static t sa)) = Fair (static t sa) × (verdict (refusals fs ms (static t sa)) ≡ Ok tt)
+LastFair fs ms (Some (modal t sa q)) = Fair (modal t sa q) × (verdict (refusals fs ms (modal t sa q)) ≡ Ok tt)
+
+abbrev pub FairLedger : Ledger → Type 0
+FairLedger ℓ = LastFair (ℓ .floors) (ℓ .modes) (ℓ .last)

@@ -8,10 +8,10 @@ use Rattle.combination.specs.Laws.{Laws}
 use Rattle.sheet.specs.declared.call.Call.{Call}
 use Rattle.sheet.specs.declared.call.Call.the-variants.{Floor}
 use Rattle.sheet.specs.Answers.{Stands}
-use Rattle.sheet.specs.Faultless.{Faultless}
+use Rattle.sheet.specs.Faultless.{Faultless, FairLedger}
 use Rattle.sheet.specs.Histories.{asked, ledgerOf}
 use Rattle.sheet.specs.Ledgers.{Ledger, opened, step}
-use Rattle.sheet.proofs.Standing.{FairLedger, carried, fair-step, fair-asked, faultless}
+use Rattle.sheet.proofs.Standing.{carried, fair-step, fair-asked, faultless}
 use Rattle.sheet.proofs.history.run.Needs as need
 
 pub loop-call-again : need.loop-call-again

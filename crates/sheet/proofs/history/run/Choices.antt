@@ -2,7 +2,7 @@ use lib.ListN.{take}
 use denote.Ref.{now}
 use Rattle.sheet.specs.Answers.{Stands}
 use Rattle.sheet.specs.Histories.{ledgerOf}
-use Rattle.sheet.proofs.Standing.{FairLedger}
+use Rattle.sheet.specs.Faultless.{FairLedger}
 use Rattle.sheet.proofs.history.run.Given as given
 
 abbrev pub Inv-loop-call : given.InvT-loop-call

@@ -1,0 +1,4 @@
+pub mod TermsBack
+pub mod Takes
+pub mod FairDeeds
+pub mod Standing
