@@ -62,6 +62,11 @@ fn work(rt: &LibcRuntime) -> Result<(), AnyError> {
     print_desk(rt, &desk)
 }
 
+// Where reading or writing fails, says so on standard error; the status tells it too.
 fn main(rt: LibcRuntime) -> Result<(), AnyError> {
-    rt.report(work(&rt))
+    let done = work(&rt);
+    if let Err(error) = &done {
+        eprintln!(rt, "jutescraper: {error}")?;
+    }
+    done
 }
