@@ -1,4 +1,6 @@
 // The period of a building, the acceleration there, and the code base shear.
+#![tactic(auto)]
+
 ghost use Rattle.base_shear.specs.Accelerations.{AccelerationLaw};
 ghost use Rattle.base_shear.specs.Periods.{PeriodLaw};
 

@@ -1,4 +1,6 @@
 // How a storey's modal values become one number.
+#![tactic(auto)]
+
 ghost use Rattle.combination.specs.Theorems.{RuleLaws};
 ghost use Rattle.combination.specs.Examples.{Examples};
 

@@ -1,4 +1,6 @@
 // The desk that takes a deck's records one by one, and prints what they come to.
+#![tactic(auto)]
+
 ghost use Rattle.deck.specs.Samples.{PrintLaw, FramePrint};
 
 use sheet::samples_stand;

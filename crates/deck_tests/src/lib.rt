@@ -1,4 +1,5 @@
 // Bad and borderline records at a desk, and its print into buffers of several lengths.
+#![tactic(auto)]
 
 #[cfg(test)]
 mod tests {

@@ -1,4 +1,6 @@
 // What a building's shears are by both methods, over plain lists, and how near they lie to exact values.
+#![tactic(auto)]
+
 ghost use Rattle.formulas.specs.Theorems.{StaticTheorems, ForceTheorems, ModalTheorems, CombinedTheorems};
 
 pub mod floor;

@@ -1,4 +1,6 @@
 // Reads a deck on standard input, says which records are refused, and prints what the deck comes to.
+#![tactic(auto)]
+
 ghost use Rattle.std.specs.Prelude.{◌≤◌, IfOk};
 
 use anyhow::anyhow;

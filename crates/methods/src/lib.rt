@@ -1,4 +1,6 @@
 // The methods: from the floors that count, with their weights, to shears and forces by storey.
+#![tactic(auto)]
+
 mod base;
 mod forces;
 mod levers;

@@ -1,4 +1,6 @@
 // The text of the shears and forces of a building's storeys, and of what was refused.
+#![tactic(auto)]
+
 mod figures;
 mod print;
 mod refusal;

@@ -1,4 +1,5 @@
 // Records of 96 bytes, and what each says.
+#![tactic(auto)]
 
 pub mod ordinates;
 pub mod read;

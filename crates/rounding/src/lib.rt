@@ -1,4 +1,6 @@
 // Rounding to whole numbers, and the theorems that the other crates build on.
+#![tactic(auto)]
+
 ghost use Rattle.rounding.specs.Rounding.{NearestLaws};
 ghost use Rattle.rounding.specs.Roots.{RootLaws};
 ghost use Rattle.rounding.specs.Sums.{Cauchy, CauchyWeighted};

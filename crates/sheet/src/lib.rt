@@ -1,4 +1,6 @@
 // A building's sheet: its floors and modes, and what the last run gave of each storey.
+#![tactic(auto)]
+
 ghost use Rattle.sheet.specs.Carried.{Carried};
 ghost use Rattle.sheet.specs.Samples.{Samples};
 

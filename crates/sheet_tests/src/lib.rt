@@ -1,4 +1,5 @@
 // Each refusal of a sheet at its limit and one beyond, and in its order against its neighbours.
+#![tactic(auto)]
 
 #[cfg(test)]
 mod tests {

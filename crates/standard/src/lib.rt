@@ -1,4 +1,6 @@
 // What the standard lists: refusals, the terms of a site, fractions and measures.
+#![tactic(auto)]
+
 ghost use Rattle.standard.specs.Faults.{VerdictLaw};
 
 pub mod fault;

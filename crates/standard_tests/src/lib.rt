@@ -1,4 +1,5 @@
 // Bad and borderline input to the standard's own calls.
+#![tactic(auto)]
 
 #[cfg(test)]
 mod tests {

@@ -1,4 +1,6 @@
 // The trial: stored decks and lists of calls, each held to what independent calculators say of it.
+#![tactic(auto)]
+
 mod case;
 mod decks;
 mod parse;

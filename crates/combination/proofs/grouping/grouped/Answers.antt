@@ -11,8 +11,8 @@ abs-size-requires c =
     let f : SFits w32 (get_or c.args.list.items.now c.loop-x.x-index (mode 0 (pos 0))).value = search rules in
     abs_fits _ f (size_small c.loop-x.items c.args.list.items.now c.loop-x.count c.loop-x.x-index c.loop-x.previous c.loop-x.invariant c.loop-x-test.true c.args.list.sound.2)
 
-pub overflow-add-items : goal.overflow-add-items
-overflow-add-items c =
+pub overflow_add-items : goal.overflow_add-items
+overflow_add-items c =
     let f : SFits w32 (get_or c.args.list.items.now c.loop-x.x-index (mode 0 (pos 0))).value = search rules in
     sum_fits c.loop-x.items c.args.list.items.now c.loop-x.count c.loop-x.x-index c.loop-x.previous c.loop-x.invariant c.loop-x-test.true c.abs-size.result f c.abs-size.ensures.value c.args.list.sound.2 c.if-count-gt0.true (omega (arith, c.loop-x.invariant.0, c.loop-x.invariant.1, c.args.list.sound.0))
 

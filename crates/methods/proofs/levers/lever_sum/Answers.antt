@@ -47,11 +47,11 @@ module _ (l : Loads) (r : ModeRow) (pre : usable l.count (mode_of l.count r) ≡
       next : back w64 (s +ℤ back w64 (to_z w64 (get_or l.floors i nothing).weight *ℤ back w64 (back w16 (get_or r.ordinates i (pos 0))))) +ℤ first (paired (drop (i + 1) (floors_of_loads l)) (drop (i + 1) (ordinates_of l r))) ≡ first (paired (drop from (floors_of_loads l)) (drop from (ordinates_of l r)))
       next = sum_step s _ _ _ _ _ is left more (small from) (small (i + 1))
 
-pub overflow-mul-sum : goal.overflow-mul-sum
-overflow-mul-sum c = fits c.args.loads.now c.args.row.now c.requires c.loop-i.i c.loop-i-test.true
+pub overflow_mul-sum : goal.overflow_mul-sum
+overflow_mul-sum c = fits c.args.loads.now c.args.row.now c.requires c.loop-i.i c.loop-i-test.true
 
-pub overflow-add-sum : goal.overflow-add-sum
-overflow-add-sum c = next_fits c.args.loads.now c.args.row.now c.requires c.loop-i.i c.loop-i-test.true _ c.args.from c.loop-i.invariant
+pub overflow_add-sum : goal.overflow_add-sum
+overflow_add-sum c = next_fits c.args.loads.now c.args.row.now c.requires c.loop-i.i c.loop-i-test.true _ c.args.from c.loop-i.invariant
 
 pub loop-i-preserved : goal.loop-i-preserved
 loop-i-preserved c = next c.args.loads.now c.args.row.now c.requires c.loop-i.i c.loop-i-test.true _ c.args.from c.loop-i.invariant

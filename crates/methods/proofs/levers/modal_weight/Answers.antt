@@ -15,8 +15,8 @@ module _ (l : Loads) (r : ModeRow) (pre : usable l.count (mode_of l.count r) ≡
   quotient_is : (i : ℕ) (x y v : ℤ) (m : ℕ) → x ≡ L (floors_of_loads l) (ordinates_of l r) 1 → y ≡ L (floors_of_loads l) (ordinates_of l r) i → m ≡ M (floors_of_loads l) (ordinates_of l r) → v ≡ nearestℤ (back w64 (back w64 x *ℤ back w64 y)) m → v ≡ modal_weight_of (floors_of_loads l) (ordinates_of l r) i
   quotient_is i x y v m x-is y-is m-is e = e ∙ (λ j. nearestℤ (product_is x y (L (floors_of_loads l) (ordinates_of l r) 1) (L (floors_of_loads l) (ordinates_of l r) i) x-is y-is (lever_small l (mode_of l.count r) pre 1) (lever_small l (mode_of l.count r) pre i) j) (m-is j))
 
-pub overflow-mul-product : goal.overflow-mul-product
-overflow-mul-product c =
+pub overflow_mul-product : goal.overflow_mul-product
+overflow_mul-product c =
     let l = c.args.loads.now in
     let r = c.args.row.now in
     let i = c.args.storey + 1 in
@@ -31,8 +31,8 @@ invariant-of-mass c =
 result-is : (c : goal.After-nearest-signed-quotient) → c.nearest-signed-quotient.result ≡ modal_weight_of (floors_of_loads c.args.loads.now) (ordinates_of c.args.loads.now c.args.row.now) (c.args.storey + 1)
 result-is c = quotient_is c.args.loads.now c.args.row.now c.requires (c.args.storey + 1) c.lever-sum.result c.lever-sum-2.result c.nearest-signed-quotient.result c.moved-mass.result c.lever-sum.ensures c.lever-sum-2.ensures c.moved-mass.ensures c.nearest-signed-quotient.ensures
 
-pub overflow-cast-result : goal.overflow-cast-result
-overflow-cast-result c = narrow_fits c.nearest-signed-quotient.result (modal_weight_of (floors_of_loads c.args.loads.now) (ordinates_of c.args.loads.now c.args.row.now) (c.args.storey + 1)) (result-is c) (weight_small c.args.loads.now (mode_of c.args.loads.now.count c.args.row.now) c.requires (c.args.storey + 1))
+pub overflow_cast-result : goal.overflow_cast-result
+overflow_cast-result c = narrow_fits c.nearest-signed-quotient.result (modal_weight_of (floors_of_loads c.args.loads.now) (ordinates_of c.args.loads.now c.args.row.now) (c.args.storey + 1)) (result-is c) (weight_small c.args.loads.now (mode_of c.args.loads.now.count c.args.row.now) c.requires (c.args.storey + 1))
 
 pub returns : goal.returns
 returns c = narrow_is c.nearest-signed-quotient.result (modal_weight_of (floors_of_loads c.args.loads.now) (ordinates_of c.args.loads.now c.args.row.now) (c.args.storey + 1)) (result-is c) (weight_small c.args.loads.now (mode_of c.args.loads.now.count c.args.row.now) c.requires (c.args.storey + 1))

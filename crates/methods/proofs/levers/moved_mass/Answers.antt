@@ -26,8 +26,8 @@ module _ (l : Loads) (r : ModeRow) (pre : usable l.count (mode_of l.count r) ≡
       let p : (get_or l.floors i nothing).weight * (u * u) ≡ (get_or l.floors i nothing).weight * (nat_abs (get_or r.ordinates i (pos 0)) * nat_abs (get_or r.ordinates i (pos 0))) = ap (λ (n : ℕ). (get_or l.floors i nothing).weight * (n * n)) size in
       omega arith
 
-pub overflow-add-sum : goal.overflow-add-sum
-overflow-add-sum c =
+pub overflow_add-sum : goal.overflow_add-sum
+overflow_add-sum c =
     let l = c.args.loads.now in
     let r = c.args.row.now in
     let m = more l r c.requires c.loop-i.i c.loop-i-test.true c.unsigned-abs-size.result c.unsigned-abs-size.ensures.value in

@@ -27,8 +27,8 @@ returns-then-base-code c =
       small = λ k h. omega (arith, c.requires.small k h);
     }
 
-pub overflow-mul-combined : goal.overflow-mul-combined
-overflow-mul-combined c = omega (arith, product c.args.code (get_or c.args.combined.now c.loop-i.i 0) c.requires.low (c.requires.small c.loop-i.i c.loop-i-test.true))
+pub overflow_mul-combined : goal.overflow_mul-combined
+overflow_mul-combined c = omega (arith, product c.args.code (get_or c.args.combined.now c.loop-i.i 0) c.requires.low (c.requires.small c.loop-i.i c.loop-i-test.true))
 
 pub invariant-of-scale : goal.invariant-of-scale
 invariant-of-scale c = let some = c.requires.moves c.if-base-code.false in (omega (arith, some), (omega (arith, c.requires.low), tt))

@@ -26,8 +26,8 @@ small s = omega (arith, weights_small s.loads (modes_in s) s.fit, length-map (ta
 pub modal-weight-requires : goal.modal-weight-requires
 modal-weight-requires c = let s = c.args.shapes.now in row_usable s.rows s.loads.count s.count c.loop-k.k c.loop-k-test.true s.held s.fit
 
-pub overflow-add-sum : goal.overflow-add-sum
-overflow-add-sum c =
+pub overflow_add-sum : goal.overflow_add-sum
+overflow_add-sum c =
     let m = more c.args.shapes.now c.loop-k.k c.loop-k-test.true c.modal-weight.result c.modal-weight.ensures c.unsigned-abs-sum.result c.unsigned-abs-sum.ensures.value in
     omega (arith, m, small c.args.shapes.now, c.loop-k.invariant)
 

@@ -6,8 +6,8 @@ use Rattle.methods.specs.Views.{floors_of_loads}
 use Rattle.methods.proofs.LoadFacts.{moment_more, moment_size}
 use Rattle.methods.proofs.statics.moment_of.Goals as goal
 
-pub overflow-add-sum : goal.overflow-add-sum
-overflow-add-sum c =
+pub overflow_add-sum : goal.overflow_add-sum
+overflow_add-sum c =
     let l = c.args.loads.now in
     let m = moment_more l.floors l.count c.loop-i.i c.loop-i-test.true l.held in
     let s = moment_size (floors_of_loads l) l.ranged in

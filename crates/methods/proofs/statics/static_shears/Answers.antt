@@ -9,8 +9,8 @@ use Rattle.methods.proofs.Lists.{fill_with_more}
 use Rattle.methods.proofs.LoadFacts.{moment_more, moment_size, moment_some, sum_split}
 use Rattle.methods.proofs.statics.static_shears.Goals as goal
 
-pub overflow-mul-base : goal.overflow-mul-base
-overflow-mul-base c =
+pub overflow_mul-base : goal.overflow_mul-base
+overflow_mul-base c =
     let l = c.args.loads.now in
     let s = moment_size (floors_of_loads l) l.ranged in
     let a : c.loop-i.rest ≤ 2000000000000 = omega (arith, s, sum_split (floors_of_loads l) c.loop-i.i, c.loop-i.invariant.1, l.summed, l.light) in
@@ -24,8 +24,8 @@ invariant-of-whole c =
     let p = moment_some (floors_of_loads l) l.ranged (omega (arith, l.held)) in
     (omega (arith, p, c.moment-of.ensures), (omega (arith, s, c.moment-of.ensures, l.summed, l.light), tt))
 
-pub overflow-sub-rest : goal.overflow-sub-rest
-overflow-sub-rest c =
+pub overflow_sub-rest : goal.overflow_sub-rest
+overflow_sub-rest c =
     let l = c.args.loads.now in
     omega (arith, moment_more l.floors l.count c.loop-i.i c.loop-i-test.true l.held, c.loop-i.invariant.1)
 

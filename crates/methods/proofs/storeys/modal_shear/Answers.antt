@@ -9,8 +9,8 @@ use Rattle.methods.proofs.Trips.{scaled_fits, scaled_is, narrow_fits, narrow_is}
 use Rattle.methods.proofs.storeys.modal_shear.Given as given
 use Rattle.methods.proofs.storeys.modal_shear.Goals as goal
 
-pub overflow-mul-a : goal.overflow-mul-a
-overflow-mul-a g c =
+pub overflow_mul-a : goal.overflow_mul-a
+overflow_mul-a g c =
     let l = c.args.loads.now in
     let r = c.args.row.now in
     let b : c.acceleration-a.result.numerator < 2 ^ 32 = search rules in
@@ -24,8 +24,8 @@ result-is g c =
     let b : c.acceleration-a.result.numerator < 2 ^ 32 = search rules in
     c.nearest-signed-quotient.ensures ∙ (λ j. nearestℤ (scaled_is c.acceleration-a.result.numerator c.modal-weight-weight.result (modal_weight_of (floors_of_loads l) (ordinates_of l r) (c.args.storey + 1)) b c.modal-weight-weight.ensures (weight_small l (mode_of l.count r) c.requires (c.args.storey + 1)) j) c.acceleration-a.result.denominator)
 
-pub overflow-cast-result : goal.overflow-cast-result
-overflow-cast-result g c =
+pub overflow_cast-result : goal.overflow_cast-result
+overflow_cast-result g c =
     let l = c.args.loads.now in
     let r = c.args.row.now in
     narrow_fits c.nearest-signed-quotient.result (modal_shear_of c.acceleration-a.result (floors_of_loads l) (ordinates_of l r) (c.args.storey + 1)) (result-is g c) (shear_small l (mode_of l.count r) c.requires c.acceleration-a.result (c.args.storey + 1) c.acceleration-a.ensures.bounded)

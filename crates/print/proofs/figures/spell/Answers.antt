@@ -13,8 +13,8 @@ loop-rest-init c = (
   ap (λ l. decimal c.args.n ++ l) (drop_all 20 c.args.text.now (omega arith)) ∙ append-nil (decimal c.args.n),
 )
 
-pub overflow-sub-at : goal.overflow-sub-at
-overflow-sub-at c = omega (arith, shorter c.loop-rest.rest c.loop-rest-test.true (omega arith))
+pub overflow_sub-at : goal.overflow_sub-at
+overflow_sub-at c = omega (arith, shorter c.loop-rest.rest c.loop-rest-test.true (omega arith))
 
 pub loop-rest-smaller : goal.loop-rest-smaller
 loop-rest-smaller c = omega arith

@@ -6,8 +6,8 @@ use Rattle.print.proofs.print.forces_len.Goals as goal
 pub loop-i-init : goal.loop-i-init
 loop-i-init c = (omega arith, omega arith)
 
-pub overflow-add-len-in-loop-i : goal.overflow-add-len-in-loop-i
-overflow-add-len-in-loop-i c = omega (arith, c.args.storeys.now.few)
+pub overflow_add-len-in-loop-i : goal.overflow_add-len-in-loop-i
+overflow_add-len-in-loop-i c = omega (arith, c.args.storeys.now.few)
 
 pub loop-i-preserved : goal.loop-i-preserved
 loop-i-preserved c =

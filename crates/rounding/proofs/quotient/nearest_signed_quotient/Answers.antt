@@ -30,14 +30,14 @@ module _ (n : ℤ) (d : ℕ) (fits : SFits w64 n) (p : 1 ≤ d) (q : d < 2 ^ 63)
 pub returns-then-rest-divisor : goal.returns-then-rest-divisor
 returns-then-rest-divisor c =
     let r = rest_is c.args.n c.args.divisor.value c.ranges.n (omega arith) (omega arith) in
-    same c.args.n c.args.divisor.value c.ranges.n (omega arith) (omega arith) (omega (arith, r, c.unsigned-abs-rest.ensures.value))
+    same c.args.n c.args.divisor.value c.ranges.n (omega arith) (omega arith) (omega (arith, r, c.unsigned_abs-rest.ensures.value))
 
 pub returns-then-n-lt0 : goal.returns-then-n-lt0
 returns-then-n-lt0 c =
     let r = rest_is c.args.n c.args.divisor.value c.ranges.n (omega arith) (omega arith) in
-    down c.args.n c.args.divisor.value c.ranges.n (omega arith) (omega arith) (omega (arith, r, c.unsigned-abs-rest.ensures.value)) (omega (arith, ints))
+    down c.args.n c.args.divisor.value c.ranges.n (omega arith) (omega arith) (omega (arith, r, c.unsigned_abs-rest.ensures.value)) (omega (arith, ints))
 
 pub returns-else-n-lt0 : goal.returns-else-n-lt0
 returns-else-n-lt0 c =
     let r = rest_is c.args.n c.args.divisor.value c.ranges.n (omega arith) (omega arith) in
-    up c.args.n c.args.divisor.value c.ranges.n (omega arith) (omega arith) (omega (arith, r, c.unsigned-abs-rest.ensures.value)) (omega (arith, ints))
+    up c.args.n c.args.divisor.value c.ranges.n (omega arith) (omega arith) (omega (arith, r, c.unsigned_abs-rest.ensures.value)) (omega (arith, ints))

@@ -16,8 +16,8 @@ stepped sum i r xs h l e =
     let d : total (drop i xs) ≡ r + total (drop (i + 1) xs) = rw e (at_drop_more total xs i (mode 0 (pos 0)) l) in
     omega arith
 
-pub overflow-add-sum : goal.overflow-add-sum
-overflow-add-sum c =
+pub overflow_add-sum : goal.overflow_add-sum
+overflow_add-sum c =
     let f : SFits w32 (get_or c.args.list.items.now c.loop-x.x-index (mode 0 (pos 0))).value = search rules in
     omega (arith, stepped c.loop-x.sum c.loop-x.x-index c.unsigned-abs-sum.result c.args.list.items.now c.loop-x.invariant c.loop-x-test.true (simp to_z-of_z at c.unsigned-abs-sum.ensures.value), c.args.list.sound.2)
 

@@ -18,8 +18,8 @@ stepped sum i r xs h l e =
     let d : squares (drop i xs) ≡ r * r + squares (drop (i + 1) xs) = rw e (at_drop_more squares xs i (mode 0 (pos 0)) l) in
     omega arith
 
-pub overflow-add-sum : goal.overflow-add-sum
-overflow-add-sum c =
+pub overflow_add-sum : goal.overflow_add-sum
+overflow_add-sum c =
     let f : SFits w32 (get_or c.args.list.items.now c.loop-x.x-index (mode 0 (pos 0))).value = search rules in
     omega (arith, stepped c.loop-x.sum c.loop-x.x-index c.unsigned-abs-size.result c.args.list.items.now c.loop-x.invariant c.loop-x-test.true (simp to_z-of_z at c.unsigned-abs-size.ensures.value), squares_small c.args.list.items.now c.args.list.sound.2)
 
@@ -34,8 +34,8 @@ ended sum i xs h l =
     omega arith
 
 -- the root is at most the sum of the sizes' limit, which fits
-pub overflow-cast-result : goal.overflow-cast-result
-overflow-cast-result c =
+pub overflow_cast-result : goal.overflow_cast-result
+overflow_cast-result c =
     let e : c.loop-x.sum ≡ squares c.args.list.items.now = ended _ _ c.args.list.items.now c.loop-x.invariant c.loop-x-test.false in
     let h : root c.loop-x.sum ≤ largest = root_at_most _ largest (omega (arith, e, squares_small c.args.list.items.now c.args.list.sound.2)) in
     omega (arith, h, c.nearest-root.ensures)

@@ -22,8 +22,8 @@ judged s place old i w p e = λ j. verdict (reweigh_grounds (sym s.held j) (s.su
 pub judge-reweigh-requires : goal.judge-reweigh-requires
 judge-reweigh-requires c = let s = c.args.self.now in (s.light, omega (arith, c.weight-old.ensures, weight_within (floors_in s) c.saturating-sub-place.result, s.summed))
 
-pub overflow-sub-self : goal.overflow-sub-self
-overflow-sub-self c = let s = c.args.self.now in omega (arith, c.weight-old.ensures, weight_within (floors_in s) c.saturating-sub-place.result, s.summed)
+pub overflow_sub-self : goal.overflow_sub-self
+overflow_sub-self c = let s = c.args.self.now in omega (arith, c.weight-old.ensures, weight_within (floors_in s) c.saturating-sub-place.result, s.summed)
 
 pub returns-in-err-judge-reweigh : goal.returns-in-err-judge-reweigh
 returns-in-err-judge-reweigh c =
