@@ -2,9 +2,9 @@
 -- `cauchy-weighted-by` and `cauchy-by` take the weights and ordinates as functions of the elements, and so serve a list of records; the others are over pairs.
 -- Each is by induction on the list. At a step the right side less the left grows by w (Σ w φ² - 2 t Σ w φ + t² Σ w) at t = φ, which is w Σ w (φ - t)² (`spread`), and so without weights (`cross`).
 -- Assumes nothing.
-use Rattle.std.proofs.Common.{◌≡◌, ℕ, ◌+◌, ◌*◌, ◌≤◌, List, [], ◌∷◌, ℤ, pos, ◌+ℤ◌, ◌-ℤ◌, ◌*ℤ◌, nat_abs, ◌≤ℤ◌, sym, refl, subst}
+use Rattle.std.proofs.Common.{◌≡◌, ℕ, ◌*◌, ◌≤◌, List, [], ◌∷◌, ℤ, pos, ◌+ℤ◌, ◌-ℤ◌, ◌*ℤ◌, nat_abs, ◌≤ℤ◌, sym, refl, subst}
 use lib.Signed.{≤ℤ_refl}
-use Rattle.rounding.specs.Sums.{sum_n, sum_z, weight, first, second, second_n, Cauchy, CauchyWeighted}
+use Rattle.rounding.specs.Sums.{sum_n, sum_z, weight, first, second_n, Cauchy, CauchyWeighted}
 use Rattle.rounding.proofs.Ring.{var, con, ◌⊕◌, ◌⊖◌, ◌⊗◌, solve, ring₁, ring₂, ring₅, ring₆}
 use Rattle.rounding.proofs.Order.{≤ℤ_by, +ℤ_nonneg, *ℤ_nonneg, square_nonneg, pos_nonneg, diff_nonneg, nat_abs_square, pos_le_out}
 

@@ -8,7 +8,7 @@ use lib.Signed.{mag, nat_abs-le}
 use mir.Syntax.{Width}
 use mir.Val.{hbits}
 use borrow.Author.Differences.{ints}
-use Rattle.rounding.proofs.Ring.{Expr, var, con, ◌⊕◌, ◌⊖◌, ◌⊗◌, ⊝◌, ring₂, ring₃}
+use Rattle.rounding.proofs.Ring.{con, ◌⊕◌, ◌⊖◌, ◌⊗◌, ring₂, ring₃}
 
 -- ---- the order of ℤ
 

@@ -1,5 +1,5 @@
 -- The laws of `nearest`. Assumes nothing.
-use Rattle.std.proofs.Common.{◌≡◌, ℕ, suc, ◌+◌, ◌-◌, ◌*◌, ◌/◌, ◌%◌, ◌<◌, ◌≤◌, ℤ, pos, negsuc, ◌+ℤ◌, ◌-ℤ◌, ◌*ℤ◌, neg_ℤ, nat_abs, ◌≤ℤ◌, ◌<ℤ◌, sym, refl, ap, ◌∙◌, mul-le-mul_right, mod-lt, mul-le-mul_left, div-add-mod', div-le_self, div-mul-le_self, arith, SFits}
+use Rattle.std.proofs.Common.{◌≡◌, ℕ, suc, ◌+◌, ◌*◌, ◌/◌, ◌%◌, ◌<◌, ◌≤◌, ℤ, pos, negsuc, ◌+ℤ◌, ◌-ℤ◌, ◌*ℤ◌, neg_ℤ, nat_abs, ◌≤ℤ◌, ◌<ℤ◌, refl, ap, ◌∙◌, mul-le-mul_right, mod-lt, mul-le-mul_left, div-add-mod', div-le_self, div-mul-le_self, arith, SFits}
 use native.Mathlib.Nat.{lt-div-mul-add, div-eq_of_lt-le, mod-le}
 use mir.Syntax.{Width}
 use lib.Signed.{quot_z, rem_z}

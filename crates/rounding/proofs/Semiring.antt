@@ -2,7 +2,7 @@
 -- `omega arith` multiplies products out too and is the first thing to try, up to 64 monomials; here the size is not limited, and powers of sums are opened.
 -- The names differ from those of `Ring`, so that a file can import both.
 -- Assumes nothing.
-use Rattle.std.proofs.Common.{◌≡◌, ℕ, zero, suc, ◌+◌, ◌*◌, ◌^◌, List, [], ◌∷◌, map, ℤ, pos, ◌+ℤ◌, ◌*ℤ◌, nat_abs, sym, refl, ap, ◌∙◌, pow-suc}
+use Rattle.std.proofs.Common.{◌≡◌, ℕ, zero, suc, ◌+◌, ◌*◌, ◌^◌, List, [], ◌∷◌, map, pos, ◌+ℤ◌, ◌*ℤ◌, nat_abs, sym, refl, ap, ◌∙◌, pow-suc}
 use native.Mathlib.Nat.{pow-zero}
 use lib.IntN.{one, pow}
 use Rattle.rounding.proofs.Ring as R

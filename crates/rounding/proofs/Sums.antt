@@ -1,9 +1,9 @@
 -- Laws of the sums of `specs.Sums`. Assumes nothing.
-use Rattle.std.proofs.Common.{◌≡◌, ℕ, ◌+◌, ◌*◌, ◌≤◌, List, [], ◌∷◌, ℤ, pos, ◌+ℤ◌, ◌*ℤ◌, nat_abs, ◌≤ℤ◌, sym, refl, ap, ◌∙◌, le_trans, le_refl, arith}
+use Rattle.std.proofs.Common.{◌≡◌, ℕ, ◌≤◌, List, [], ◌∷◌, ℤ, pos, ◌+ℤ◌, ◌*ℤ◌, nat_abs, ◌≤ℤ◌, sym, refl, ap, ◌∙◌, le_refl, arith}
 use lib.IntN.{*ℤ-zero}
 use lib.Signed.{≤ℤ_refl}
 use Rattle.rounding.specs.Sums.{sum_n, sum_z}
-use Rattle.rounding.proofs.Ring.{◌⊕◌, ◌⊗◌, ring₄, *ℤ-+ℤ}
+use Rattle.rounding.proofs.Ring.{◌⊕◌, ring₄, *ℤ-+ℤ}
 use Rattle.rounding.proofs.Order.{+ℤ_mono, +ℤ_nonneg, nat_abs_add}
 
 module _ {A : Type 0} where

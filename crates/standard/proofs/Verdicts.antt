@@ -1,8 +1,8 @@
 -- The law of the verdict. Assumes nothing.
-use Rattle.std.proofs.Common.{◌≡◌, ℕ, Bool, true, false, cond, List, [], ◌∷◌, Ok, Err, Result, sym, refl, ap, ◌∙◌, subst, arith}
+use Rattle.std.proofs.Common.{◌≡◌, ℕ, true, false, List, [], ◌∷◌, Ok, Err, refl, subst, arith}
 use Rattle.std.specs.List.{AllByRecursion as All}
 use Rattle.standard.specs.declared.fault.Fault.{Fault}
-use Rattle.standard.specs.Faults.{Refusal, refusal, holds, fault, Verdict, verdict, First, here, later, VerdictLaw}
+use Rattle.standard.specs.Faults.{Refusal, refusal, holds, fault, verdict, First, here, later, VerdictLaw}
 
 apart : ◌≡◌ {A = ℕ} 0 1 → ⊥
 apart z = omega arith

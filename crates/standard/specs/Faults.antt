@@ -63,7 +63,7 @@ layer_of NoCombinedShear = Method
 layer_of NoSuchRule = Record
 layer_of PrintBuffer = Record
 
-abbrev pub fault : Ground → ℕ → Fault
+abbrev pub fault : (ground : Ground) (place : ℕ) → Fault
 fault g p = record { ground = g; place = p }
 
 -- a refusal that a call may meet: its ground and place, and whether its condition holds

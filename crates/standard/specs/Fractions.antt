@@ -1,5 +1,5 @@
 -- Fractions, compared by multiplying across.
-use Rattle.std.specs.Prelude.{◌≡◌, ℕ, ◌*◌, ◌<◌, ◌≤◌, Bool, nat_lt}
+use Rattle.std.specs.Prelude.{◌≡◌, ℕ, ◌*◌, ◌<◌, Bool, nat_lt}
 use Rattle.std.specs.Int.{◌∣◌}
 use Rattle.standard.specs.declared.fraction.Fraction.{Fraction}
 

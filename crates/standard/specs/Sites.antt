@@ -1,5 +1,5 @@
 -- The values of a site: which are listed, what each stands for, and the numbers that the standard gives it.
-use Rattle.std.specs.Prelude.{◌≡◌, ℕ, Bool, true, false, cond, not, ◌&&◌, ◌||◌, List, [], ◌∷◌, ◌==◌, nat_le}
+use Rattle.std.specs.Prelude.{ℕ, Bool, cond, not, ◌&&◌, ◌||◌, List, [], ◌∷◌, ◌==◌, nat_le}
 use Rattle.standard.specs.declared.fault.Ground.TheVariants.{SiteValue}
 use Rattle.standard.specs.declared.terms.Zone.{Zone}
 use Rattle.standard.specs.declared.terms.Zone.TheVariants.{II, III, IV, V}

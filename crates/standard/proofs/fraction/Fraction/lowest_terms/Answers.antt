@@ -1,7 +1,6 @@
-use Rattle.std.proofs.Common.{◌≡◌, ℕ, ◌<◌, ◌⊎◌, refl, subst, inl, inr, arith}
+use Rattle.std.proofs.Common.{◌≡◌, ℕ, ◌<◌, refl, subst, inl, inr, arith}
 use Prim.Native.Nat.{◌∣◌}
 use native.Mathlib.Nat.{eq-zero_of_zero-dvd}
-use Rattle.standard.specs.Fractions.{Coprime}
 use Rattle.standard.proofs.Fractions.{quotients_coprime, quotients_same, quotient_positive}
 use Rattle.standard.proofs.fraction.Fraction.lowest_terms.Goals as goal
 
