@@ -1,5 +1,5 @@
 -- By any rule, the combined size is at most the sum of the sizes. Assumes nothing.
-use Rattle.std.specs.Prelude.{◌≡◌, ℕ, ◌+◌, ◌*◌, ◌≤◌, List, [], ◌∷◌, map, pos, refl}
+use Rattle.std.specs.Prelude.{◌≡◌, ℕ, ◌*◌, ◌≤◌, List, [], ◌∷◌, map, pos, refl}
 use Rattle.std.proofs.Common.{sym, arith}
 use Rattle.std.proofs.Math.IntN.{+ℤ_idl, +ℤ_idr}
 use Rattle.rounding.proofs.Order.{RootLe, root_le, root_sum}

@@ -14,8 +14,8 @@ use Rattle.combination.specs.Choice.{chosen}
 use Rattle.combination.specs.Laws.{Laws}
 use Rattle.combination.specs.Squared.{squares, squared_total}
 use Rattle.combination.specs.GroupsLaws as groups
-use Rattle.combination.specs.SquaresLaws as SquaresLaws
-use Rattle.combination.specs.TotalLaws as TotalLaws
+use Rattle.combination.specs.SquaresLaws
+use Rattle.combination.specs.TotalLaws
 use Rattle.records.specs.Rows as rows
 use Rattle.records.specs.Rows.{Row}
 use Rattle.sheet.specs.Faultless.{Fair}

@@ -6,7 +6,7 @@ use Rattle.rounding.specs.Roots.{root}
 use Rattle.rounding.proofs.Roots as R
 use Rattle.rounding.proofs.Ring.{◌⊖◌, ◌⊗◌, ring₃, ring₄}
 use Rattle.rounding.proofs.Order.{RootLe, root_sum, nat_abs_mul, sq_mono, sq_le}
-use Rattle.std.specs.List.{AllByRecursion as All}
+use Rattle.std.specs.List.{AllByRecursion}
 use Rattle.standard.specs.declared.fraction.Fraction.{Fraction}
 use Rattle.base_shear.specs.Accelerations.{Acceleration}
 use Rattle.combination.specs.declared.response.Response.{Response}
@@ -117,7 +117,7 @@ over_is k d n = ring₃ (λ k n d. (k ⊗ n) ⊗ d) (λ k n d. (d ⊗ k) ⊗ n) 
 
 module _ (a : ℕ → Fraction) (fs : List Floor) (i : ℕ) where
   abbrev Sound : List Mode → Type 0
-  Sound ms = All (λ m. Acceleration (a m.period) × (1 ≤ M fs m.ordinates)) ms
+  Sound ms = AllByRecursion (λ m. Acceleration (a m.period) × (1 ≤ M fs m.ordinates)) ms
 
   -- the exact shear of a mode: its numerator and denominator
   abbrev over : Mode → ℤ

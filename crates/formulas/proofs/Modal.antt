@@ -5,7 +5,7 @@ use Rattle.rounding.proofs.Ring.{◌⊕◌, ◌⊖◌, ◌⊗◌, ring₆}
 use Rattle.rounding.proofs.Order.{nat_abs_add, nat_abs_mul, sq_le}
 use Rattle.rounding.proofs.Cauchy.{cauchy_weighted_n}
 use Rattle.rounding.proofs.Rounding.{closeℤ}
-use Rattle.std.specs.List.{AllByRecursion as All}
+use Rattle.std.specs.List.{AllByRecursion}
 use Rattle.standard.specs.declared.fraction.Fraction.{Fraction}
 use Rattle.base_shear.specs.Accelerations.{Acceleration}
 use Rattle.combination.specs.Values.{total}
@@ -56,7 +56,7 @@ shear_size_lem a fs φ i lawful p small =
     let m : nat_abs (modal_weight_of fs φ i) ≤ heaviest = le_trans (weight_size_lem fs φ i p) small in
     nearestℤ_at_most (pos a.numerator *ℤ modal_weight_of fs φ i) a.denominator 720000 lawful.0 (omega (arith, nat_abs_mul (pos a.numerator) (modal_weight_of fs φ i), mul-le-mul_left a.numerator m, lawful.1))
 
-sizes : (a : ℕ → Fraction) (fs : List Floor) (i : ℕ) → W fs ≤ heaviest → (ms : List Mode) → All (λ m. Acceleration (a m.period) × (1 ≤ M fs m.ordinates)) ms → total (storey_values_of a fs ms i) ≤ 720000 * length ms
+sizes : (a : ℕ → Fraction) (fs : List Floor) (i : ℕ) → W fs ≤ heaviest → (ms : List Mode) → AllByRecursion (λ m. Acceleration (a m.period) × (1 ≤ M fs m.ordinates)) ms → total (storey_values_of a fs ms i) ≤ 720000 * length ms
 unfolding storey_values_of
 sizes a fs i small [] h = omega arith
 sizes a fs i small (m ∷ ms) h = omega (arith, sizes a fs i small ms h.1, shear_size_lem (a m.period) fs m.ordinates i h.0.0 h.0.1 small)

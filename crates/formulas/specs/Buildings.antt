@@ -1,7 +1,7 @@
 -- A building as lists, bottom first. Storey i, from 1, is the one below floor i; what it carries is what stands from i on.
 use Rattle.std.specs.Prelude.{ℕ, ◌-◌, ◌≤◌, List, [], ◌∷◌, drop, ℤ}
 use Rattle.rounding.specs.Sums.{sum_n}
-use Rattle.std.specs.List.{AllByRecursion as All}
+use Rattle.std.specs.List.{AllByRecursion}
 use Rattle.formulas.specs.declared.floor.Floor.{Floor}
 
 -- a mode: its period, and one ordinate for each floor
@@ -15,7 +15,7 @@ up_from i xs = drop (i - 1) xs
 
 -- every floor weighs something and lies above the base
 abbrev pub Built : List Floor → Type 0
-Built fs = All (λ f. (1 ≤ f.weight) × (1 ≤ f.height)) fs
+Built fs = AllByRecursion (λ f. (1 ≤ f.weight) × (1 ≤ f.height)) fs
 
 -- the weight of all floors
 abbrev pub W : List Floor → ℕ

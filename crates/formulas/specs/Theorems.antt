@@ -2,7 +2,7 @@
 use Rattle.std.specs.Prelude.{◌≡◌, ℕ, ◌+◌, ◌*◌, ◌<◌, ◌≤◌, List, length, ℤ, pos, ◌*ℤ◌, unsigned_abs}
 use Rattle.rounding.specs.Rounding.{nearest}
 use Rattle.rounding.specs.Roots.{root}
-use Rattle.std.specs.List.{AllByRecursion as All}
+use Rattle.std.specs.List.{AllByRecursion}
 use Rattle.standard.specs.declared.fraction.Fraction.{Fraction}
 use Rattle.base_shear.specs.Accelerations.{Acceleration}
 use Rattle.combination.specs.declared.response.Response.{Response}
@@ -29,7 +29,7 @@ pub record ForceTheorems : Type 0 where
 
 -- a mode that can be used: the acceleration at its period is one, and some floor moves
 abbrev pub Usable : (ℕ → Fraction) → List Floor → List Mode → Type 0
-Usable a fs ms = (length ms ≤ most) × All (λ m. Acceleration (a m.period) × (1 ≤ M fs m.ordinates)) ms
+Usable a fs ms = (length ms ≤ most) × AllByRecursion (λ m. Acceleration (a m.period) × (1 ≤ M fs m.ordinates)) ms
 
 pub record ModalTheorems : Type 0 where
   -- Cauchy and Schwarz, with the weights

@@ -1,6 +1,6 @@
 -- The modal shears of a storey are a list that a rule takes. Assumes nothing.
 use Rattle.std.proofs.Common.{◌≡◌, ℕ, ◌≤◌, true, ltb, List, [], ◌∷◌, length, take, refl, arith}
-use Rattle.std.specs.List.{AllByRecursion as All}
+use Rattle.std.specs.List.{AllByRecursion}
 use Rattle.std.proofs.lemmas.List.{length-map}
 use Rattle.std.proofs.lemmas.Bool.{and_parts, and_from}
 use Rattle.standard.specs.declared.fraction.Fraction.{Fraction}
@@ -34,7 +34,7 @@ unfolding storey_values_of
 values_count a fs ms i = length-map ms _
 
 -- each mode has an acceleration, and moves some floor
-all_usable : (s : SiteTerms) (sa : ℕ → Fraction) (l : Loads) → SpectrumLaw sa → (ms : List Mode) → every (usable l.count) ms ≡ true → All (λ m. Acceleration (acceleration_of s sa m.period) × (1 ≤ M (floors_of_loads l) m.ordinates)) ms
+all_usable : (s : SiteTerms) (sa : ℕ → Fraction) (l : Loads) → SpectrumLaw sa → (ms : List Mode) → every (usable l.count) ms ≡ true → AllByRecursion (λ m. Acceleration (acceleration_of s sa m.period) × (1 ≤ M (floors_of_loads l) m.ordinates)) ms
 all_usable s sa l law [] e = tt
 all_usable s sa l law (m ∷ ms) e =
     let h = and_parts (usable l.count m) (every (usable l.count) ms) e in

@@ -1,6 +1,6 @@
 -- Standing by a ledger is carried on by each call, and what follows of sums and distances. Assumes nothing.
 use Rattle.std.proofs.Common.{◌≡◌, ℕ, zero, suc, ◌+◌, ◌-◌, ◌*◌, ◌<◌, ◌≤◌, Bool, true, false, cond, not, ◌&&◌, eqb, ltb, leb, List, [], ◌∷◌, length, get_or, ℤ, pos, ◌+ℤ◌, is_ok, is_err, Some, None, Ok, Err, Option, sym, refl, ap, ◌∙◌, subst, arith}
-use Rattle.std.specs.List.{AllByRecursion as All}
+use Rattle.std.specs.List.{AllByRecursion}
 use Rattle.std.proofs.lemmas.Bool.{cond-true, cond-false, and_from, and_parts, le-leb, eqb-false}
 use Rattle.std.proofs.lemmas.Bool.Decides.{nat_tests}
 use Rattle.standard.specs.declared.fraction.Fraction.{Fraction}
@@ -123,7 +123,7 @@ module _ (s : Sheet) (fs : List Floor) (held : floors_in s ≡ fs) (t : SiteTerm
 
 -- the modes of a sheet can be used by the modal method
 usable_all : (n : ℕ) (a : ℕ → Fraction) (fs : List Floor) (ms : List Mode) → ((t : ℕ) → 1 ≤ t → t ≤ 4000 → Acceleration (a t)) → every in_range fs ≡ true → n ≡ length fs → every (usable n) ms ≡ true
-    → All (λ m. Acceleration (a m.period) × (1 ≤ M (counted fs) m.ordinates)) ms
+    → AllByRecursion (λ m. Acceleration (a m.period) × (1 ≤ M (counted fs) m.ordinates)) ms
 usable_all n a fs [] law all e u = tt
 usable_all n a fs (m ∷ ms) law all e u =
     let p = and_parts (usable n m) (every (usable n) ms) u in

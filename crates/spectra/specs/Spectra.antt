@@ -1,5 +1,5 @@
 -- What a spectrum owes, and the two curves.
-use Rattle.std.specs.Prelude.{◌≡◌, ℕ, suc, ◌+◌, ◌*◌, ◌≤◌, Bool, true, false, cond, not, ◌&&◌, List, [], ◌∷◌, ◌++◌, length, ◌==◌, nat_le, nat_lt}
+use Rattle.std.specs.Prelude.{ℕ, ◌+◌, ◌*◌, ◌≤◌, Bool, true, cond, not, ◌&&◌, List, [], ◌∷◌, ◌++◌, length, ◌==◌, nat_le, nat_lt}
 use Rattle.spectra.specs.declared.curve.Step.{Step}
 use Rattle.standard.specs.declared.fault.Ground.TheVariants.{SiteCurveStep}
 use Rattle.standard.specs.declared.fraction.Fraction.{Fraction}

@@ -1,6 +1,6 @@
 -- The law of the verdict. Assumes nothing.
 use Rattle.std.proofs.Common.{◌≡◌, ℕ, true, false, List, [], ◌∷◌, Ok, Err, refl, subst, arith}
-use Rattle.std.specs.List.{AllByRecursion as All}
+use Rattle.std.specs.List.{AllByRecursion}
 use Rattle.standard.specs.declared.fault.Fault.{Fault}
 use Rattle.standard.specs.Faults.{Refusal, refusal, holds, fault, verdict, First, here, later, VerdictLaw}
 
@@ -16,12 +16,12 @@ first : (rs : List Refusal) (f : Fault) → First rs f → verdict rs ≡ Err f
 first rs f (here g p) = refl
 first rs f (later g p h) = first _ f h
 
-accepted : (rs : List Refusal) → verdict rs ≡ Ok tt → All (λ r. holds r ≡ false) rs
+accepted : (rs : List Refusal) → verdict rs ≡ Ok tt → AllByRecursion (λ r. holds r ≡ false) rs
 accepted [] e = tt
 accepted (refusal g p true ∷ rs) e = let z : ◌≡◌ {A = ℕ} 0 1 = cc in absurd (apart z)
 accepted (refusal g p false ∷ rs) e = (refl, accepted rs e)
 
-none : (rs : List Refusal) → All (λ r. holds r ≡ false) rs → verdict rs ≡ Ok tt
+none : (rs : List Refusal) → AllByRecursion (λ r. holds r ≡ false) rs → verdict rs ≡ Ok tt
 none [] h = refl
 none (refusal g p true ∷ rs) h = let z : ◌≡◌ {A = ℕ} 0 1 = cc h.0 in absurd (apart z)
 none (refusal g p false ∷ rs) h = none rs h.1

@@ -1,6 +1,6 @@
 -- Refusals: their numbers and layers, and how a verdict is found among several.
 use Rattle.std.specs.Prelude.{◌≡◌, ℕ, Bool, true, false, cond, List, [], ◌∷◌, Ok, Err, Result}
-use Rattle.std.specs.List.{AllByRecursion as All}
+use Rattle.std.specs.List.{AllByRecursion}
 use Rattle.standard.specs.declared.fault.Fault.{Fault}
 use Rattle.standard.specs.declared.fault.Ground.{Ground}
 use Rattle.standard.specs.declared.fault.Ground.TheVariants.{ShortRecord, UnknownLetter, UnusedByte, SiteOrder, SiteValue, FloorHeight, FloorWeight, TotalWeight, TooManyFloors, NoSuchFloor, ModesEntered, OrdinateCount, ModePeriod, OrdinateRange, OrdinatesAllZero, TooManyModes, NoSuchMode, SiteCurveStep, NoFloors, PeriodTooLong, TooHighForStatic, ModalWeightShort, NoCombinedShear, NoSuchRule, PrintBuffer}
@@ -91,5 +91,5 @@ pub data First : List Refusal → Fault → Type 0 where
 pub record VerdictLaw : Type 0 where
   pub refused : (rs : List Refusal) (f : Fault) → verdict rs ≡ Err f → First rs f
   pub first : (rs : List Refusal) (f : Fault) → First rs f → verdict rs ≡ Err f
-  pub accepted : (rs : List Refusal) → verdict rs ≡ Ok tt → All (λ r. holds r ≡ false) rs
-  pub none : (rs : List Refusal) → All (λ r. holds r ≡ false) rs → verdict rs ≡ Ok tt
+  pub accepted : (rs : List Refusal) → verdict rs ≡ Ok tt → AllByRecursion (λ r. holds r ≡ false) rs
+  pub none : (rs : List Refusal) → AllByRecursion (λ r. holds r ≡ false) rs → verdict rs ≡ Ok tt

@@ -3,9 +3,9 @@ use Rattle.rounding.proofs.Roots.{root_laws}
 use Rattle.combination.specs.declared.response.Response.{Response}
 use Rattle.combination.specs.Laws.{Laws, Consequences}
 use Rattle.combination.specs.Examples.{Examples}
-use Rattle.combination.specs.SquaresLaws as SquaresLaws
-use Rattle.combination.specs.TotalLaws as TotalLaws
-use Rattle.combination.specs.GroupsLaws as GroupsLaws
+use Rattle.combination.specs.SquaresLaws
+use Rattle.combination.specs.TotalLaws
+use Rattle.combination.specs.GroupsLaws
 use Rattle.combination.specs.Bound.{at_most_total, rooted}
 use Rattle.combination.specs.Rising.{rise_all}
 use Rattle.combination.proofs.rule_laws_stand.Goals as goal

@@ -70,4 +70,4 @@ sample s d h =
     law d ended (subst (λ (k : Book). DeskStands d k) b h) ∙ (λ j. text_of_two (s.squares_1 j) (s.squares_2 j))
 
 pub returns : goal.returns
-returns c = record { law = law; sample = sample c.samples-stand.ensures }
+returns c = record { law = law; sample = sample c.samples_stand.ensures }

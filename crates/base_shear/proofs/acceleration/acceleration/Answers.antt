@@ -6,7 +6,7 @@ use Rattle.standard.specs.Fractions.{less}
 use Rattle.spectra.specs.Spectra.{SpectrumLaw}
 use Rattle.base_shear.proofs.Accelerations.{bounded, chosen_least, chosen_reduced}
 use Rattle.base_shear.proofs.acceleration.acceleration.Goals as goal
-use Rattle.base_shear.proofs.acceleration.acceleration.Goals.{else-period-le100-via-then-period-le100+else-is-less, else-period-le100-via-else-period-le100}
+use Rattle.base_shear.proofs.acceleration.acceleration.Goals.{else-period-le100-via-then-period-le100+else-is_less, else-period-le100-via-else-period-le100}
 
 module _ (s : SiteTerms) (sa : ℕ → Fraction) (t : ℕ) (law : SpectrumLaw sa) (p : 1 ≤ t) (q : t ≤ 4000) where
   within : (r : Fraction) → r ≡ acceleration_of s sa t → Acceleration r
@@ -16,15 +16,15 @@ module _ (s : SiteTerms) (sa : ℕ → Fraction) (t : ℕ) (law : SpectrumLaw sa
   compared : (f g x : Fraction) (b : Bool) → f ≡ reduced s x → x ≡ sa t → g ≡ least_acceleration_of s → b ≡ less f g → less (reduced s (sa t)) (least_acceleration_of s) ≡ b
   compared f g x b e h k d = sym (λ i. less ((e ∙ ap (reduced s) h) i) (k i)) ∙ sym d
 
-pub returns-then-is-less : goal.returns-then-is-less
-returns-then-is-less g c =
+pub returns-then-is_less : goal.returns-then-is_less
+returns-then-is_less g c =
     let sa = g.S.Spectrum.ordinate c.args.spectrum.now in
     let law = g.met.S.Spectrum.lawful c.args.spectrum.now in
     let t = c.args.period.milliseconds in
     let s = c.args.site.now.terms in
-    let less-is = compared s sa t law c.args.period.some c.args.period.few c.reduced-acceleration-reduced.result c.least-acceleration-least.result c.at.result true c.reduced-acceleration-reduced.ensures c.at.ensures c.least-acceleration-least.ensures c.if-is-less.ensures in
-    let e = c.least-acceleration-least.ensures ∙ sym (chosen_least s sa t c.if-period-le100.true less-is) in
-    record { is = e; bounded = within s sa t law c.args.period.some c.args.period.few c.least-acceleration-least.result e }
+    let less-is = compared s sa t law c.args.period.some c.args.period.few c.reduced_acceleration-reduced.result c.least_acceleration-least.result c.at.result true c.reduced_acceleration-reduced.ensures c.at.ensures c.least_acceleration-least.ensures c.if-is_less.ensures in
+    let e = c.least_acceleration-least.ensures ∙ sym (chosen_least s sa t c.if-period-le100.true less-is) in
+    record { is = e; bounded = within s sa t law c.args.period.some c.args.period.few c.least_acceleration-least.result e }
 
 pub returns-else-period-le100 : goal.returns-else-period-le100
 returns-else-period-le100 g c =
@@ -32,12 +32,12 @@ returns-else-period-le100 g c =
     let law = g.met.S.Spectrum.lawful c.args.spectrum.now in
     let t = c.args.period.milliseconds in
     let s = c.args.site.now.terms in
-    let r = c.reduced-acceleration-reduced.result in
+    let r = c.reduced_acceleration-reduced.result in
     let way : acceleration_of c.args.site.now.terms (g.S.Spectrum.ordinate c.args.spectrum.now) c.args.period.milliseconds ≡ reduced c.args.site.now.terms (g.S.Spectrum.ordinate c.args.spectrum.now c.args.period.milliseconds) =
     elim c.else-period-le100.branch [
-      | else-period-le100-via-then-period-le100+else-is-less w ↦ chosen_reduced s sa t (inr (compared s sa t law c.args.period.some c.args.period.few r c.least-acceleration-least.result c.at.result false c.reduced-acceleration-reduced.ensures c.at.ensures c.least-acceleration-least.ensures (sym w.if-is-less.false ∙ w.is-less.ensures)))
+      | else-period-le100-via-then-period-le100+else-is_less w ↦ chosen_reduced s sa t (inr (compared s sa t law c.args.period.some c.args.period.few r c.least_acceleration-least.result c.at.result false c.reduced_acceleration-reduced.ensures c.at.ensures c.least_acceleration-least.ensures (sym w.if-is_less.false ∙ w.is_less.ensures)))
       | else-period-le100-via-else-period-le100 w ↦ chosen_reduced s sa t (inl w.if-period-le100.false)
     ]
     in
-    let e = c.reduced-acceleration-reduced.ensures ∙ ap (reduced s) c.at.ensures ∙ sym way in
+    let e = c.reduced_acceleration-reduced.ensures ∙ ap (reduced s) c.at.ensures ∙ sym way in
     record { is = e; bounded = within s sa t law c.args.period.some c.args.period.few r e }

@@ -4,7 +4,7 @@ use Rattle.std.proofs.lemmas.Int.{to_z-of_z}
 use Rattle.sheet.specs.Contents.{Reading, reading_of}
 use Rattle.sheet.specs.Faultless.{design_in, force_in}
 use Rattle.deck.specs.Prints.{highest, designs_of, forces_of}
-use Rattle.deck.proofs.pages.storeys_of.Goals.{then-is-some, else-is-some}
+use Rattle.deck.proofs.pages.storeys_of.Goals.{then-is_some, else-is_some}
 use Rattle.deck.proofs.pages.storeys_of.Goals as goal
 
 -- one storey more in the design shears
@@ -30,21 +30,21 @@ highest_grows reads i before there e b =
 pub loop-i-preserved : goal.loop-i-preserved
 loop-i-preserved c =
     let z = c.loop-i.invariant in
-    let f : SFits w64 c.figures-of-shear.result.1 = search rules in
-    let force : ℤ = to_z w64 (of_z w64 c.figures-of-shear.result.1) in
-    let present : c.is-some.result ≡ is_some (reading_of c.args.sheet.now (c.loop-i.i + 1)) = c.is-some.ensures ∙ ap is_some c.reading.ensures in
-    let counted : c.if-is-some.count ≡ cond c.is-some.result (c.loop-i.i + 1) c.loop-i.count =
-    elim c.if-is-some.branch [
-      | then-is-some w ↦ w.count-is ∙ sym (ap (λ (t : Bool). cond t (c.loop-i.i + 1) c.loop-i.count) w.if-is-some.true)
-      | else-is-some w ↦ w.count-is ∙ sym (ap (λ (t : Bool). cond t (c.loop-i.i + 1) c.loop-i.count) w.if-is-some.false)
+    let f : SFits w64 c.figures_of-shear.result.1 = search rules in
+    let force : ℤ = to_z w64 (of_z w64 c.figures_of-shear.result.1) in
+    let present : c.is_some.result ≡ is_some (reading_of c.args.sheet.now (c.loop-i.i + 1)) = c.is_some.ensures ∙ ap is_some c.reading.ensures in
+    let counted : c.if-is_some.count ≡ cond c.is_some.result (c.loop-i.i + 1) c.loop-i.count =
+    elim c.if-is_some.branch [
+      | then-is_some w ↦ w.count-is ∙ sym (ap (λ (t : Bool). cond t (c.loop-i.i + 1) c.loop-i.count) w.if-is_some.true)
+      | else-is_some w ↦ w.count-is ∙ sym (ap (λ (t : Bool). cond t (c.loop-i.i + 1) c.loop-i.count) w.if-is_some.false)
     ] in
-    let low : c.if-is-some.count ≤ c.loop-i.i + 1 = elim c.if-is-some.branch [ then-is-some w ↦ omega (arith, w.count-is) | else-is-some w ↦ omega (arith, w.count-is, z.2) ] in (
-      length-set c.loop-i.design c.loop-i.i c.figures-of-shear.result.0 ∙ z.0,
+    let low : c.if-is_some.count ≤ c.loop-i.i + 1 = elim c.if-is_some.branch [ then-is_some w ↦ omega (arith, w.count-is) | else-is_some w ↦ omega (arith, w.count-is, z.2) ] in (
+      length-set c.loop-i.design c.loop-i.i c.figures_of-shear.result.0 ∙ z.0,
       length-set c.loop-i.forces c.loop-i.i force ∙ z.1,
       low,
-      counted ∙ highest_grows (reading_of c.args.sheet.now) c.loop-i.i c.loop-i.count c.is-some.result present z.3,
-      designs_grow (reading_of c.args.sheet.now) c.loop-i.design c.loop-i.i c.figures-of-shear.result.0 (omega (arith, z.0, c.loop-i-test.true)) c.figures-of-shear.ensures.design z.4,
-      forces_grow (reading_of c.args.sheet.now) c.loop-i.forces c.loop-i.i force (omega (arith, z.1, c.loop-i-test.true)) (to_z-of_z w64 c.figures-of-shear.result.1 f ∙ c.figures-of-shear.ensures.force) z.5,
+      counted ∙ highest_grows (reading_of c.args.sheet.now) c.loop-i.i c.loop-i.count c.is_some.result present z.3,
+      designs_grow (reading_of c.args.sheet.now) c.loop-i.design c.loop-i.i c.figures_of-shear.result.0 (omega (arith, z.0, c.loop-i-test.true)) c.figures_of-shear.ensures.design z.4,
+      forces_grow (reading_of c.args.sheet.now) c.loop-i.forces c.loop-i.i force (omega (arith, z.1, c.loop-i-test.true)) (to_z-of_z w64 c.figures_of-shear.result.1 f ∙ c.figures_of-shear.ensures.force) z.5,
     )
 
 pub returns : goal.returns

@@ -28,5 +28,5 @@ loop-i-preserved c =
 
 pub returns : goal.returns
 returns c =
-    (let k : c.loop-i.i ≡ length c.args.deck.now / 96 + min 1 (length c.args.deck.now % 96) = (let e : c.loop-i.i ≡ c.div-ceil-i-end.result = omega (arith, c.loop-i.auto.i-end, c.loop-i-test.false) in e ∙ c.div-ceil-i-end.ensures) in
+    (let k : c.loop-i.i ≡ length c.args.deck.now / 96 + min 1 (length c.args.deck.now % 96) = (let e : c.loop-i.i ≡ c.div_ceil-i-end.result = omega (arith, c.loop-i.auto.i-end, c.loop-i-test.false) in e ∙ c.div_ceil-i-end.ensures) in
     subst (λ (n : ℕ). DeskStands c.loop-i.desk (book_of (first_records n c.args.deck.now))) k c.loop-i.invariant)

@@ -13,9 +13,9 @@ returns g c =
     let s = c.args.site.now.terms in
     let sa = g.C.Spectrum.ordinate c.args.spectrum.now in
     let l = c.args.loads.now in
-    let roof : c.roof-height.result.decimetres ≡ roof_of (floors_of_loads c.args.loads.now) = c.roof-height.ensures in
-    let accepted = subst (λ (h : ℕ). verdict (period_refusals c.args.site.now.terms.formula h) ≡ Ok tt) roof c.in-ok-base.ensures.0 in
-    let value = c.in-ok-base.ensures.1 ∙ (λ i. code_base_shear_of s sa (roof i) (l.summed i)) in
-    let low : 20 ≤ roof_of (floors_of_loads c.args.loads.now) = omega (arith, roof, c.roof-height.result.low) in
+    let roof : c.roof_height.result.decimetres ≡ roof_of (floors_of_loads c.args.loads.now) = c.roof_height.ensures in
+    let accepted = subst (λ (h : ℕ). verdict (period_refusals c.args.site.now.terms.formula h) ≡ Ok tt) roof c.in_ok-base.ensures.0 in
+    let value = c.in_ok-base.ensures.1 ∙ (λ i. code_base_shear_of s sa (roof i) (l.summed i)) in
+    let low : 20 ≤ roof_of (floors_of_loads c.args.loads.now) = omega (arith, roof, c.roof_height.result.low) in
     let light : W (floors_of_loads c.args.loads.now) ≤ heaviest = omega (arith, l.summed, l.light) in
     (accepted, value, omega (arith, value, base_within s sa (floors_of_loads l) (g.met.C.Spectrum.lawful c.args.spectrum.now) c.args.site.now.accepted low light accepted))

@@ -4,10 +4,10 @@ use Rattle.methods.specs.Loads.{height_at, nothing}
 use Rattle.methods.proofs.LoadFacts.{held_ranged, held_at}
 use Rattle.methods.proofs.base.roof_height.Goals as goal
 
-pub invariant-of-result : goal.invariant-of-result
-invariant-of-result c =
+pub invariant_of-result : goal.invariant_of-result
+invariant_of-result c =
     let r = held_ranged c.args.loads.now.floors c.args.loads.now.count (c.args.loads.now.count - 1) (omega arith) c.args.loads.now.held c.args.loads.now.ranged in
-    (r.low, (r.high, tt))
+    record { low = r.low; high = r.high }
 
 pub returns : goal.returns
 returns c =

@@ -20,19 +20,19 @@ overflow_mul-product c =
     let l = c.args.loads.now in
     let r = c.args.row.now in
     let i = c.args.storey + 1 in
-    product_fits c.lever-sum.result c.lever-sum-2.result (L (floors_of_loads l) (ordinates_of l r) 1) (L (floors_of_loads l) (ordinates_of l r) i) c.lever-sum.ensures c.lever-sum-2.ensures (lever_small l (mode_of l.count r) c.requires 1) (lever_small l (mode_of l.count r) c.requires i)
+    product_fits c.lever_sum.result c.lever_sum-2.result (L (floors_of_loads l) (ordinates_of l r) 1) (L (floors_of_loads l) (ordinates_of l r) i) c.lever_sum.ensures c.lever_sum-2.ensures (lever_small l (mode_of l.count r) c.requires 1) (lever_small l (mode_of l.count r) c.requires i)
 
-pub invariant-of-mass : goal.invariant-of-mass
-invariant-of-mass c =
+pub invariant_of-mass : goal.invariant_of-mass
+invariant_of-mass c =
     let s = mass_some c.args.loads.now (mode_of c.args.loads.now.count c.args.row.now) c.requires in
     let b = mass_small c.args.loads.now (mode_of c.args.loads.now.count c.args.row.now) c.requires in
-    (omega (arith, s, c.moved-mass.ensures), (omega (arith, b, c.moved-mass.ensures), tt))
+    record { positive = omega (arith, s, c.moved_mass.ensures); within = omega (arith, b, c.moved_mass.ensures) }
 
-result-is : (c : goal.After-nearest-signed-quotient) → c.nearest-signed-quotient.result ≡ modal_weight_of (floors_of_loads c.args.loads.now) (ordinates_of c.args.loads.now c.args.row.now) (c.args.storey + 1)
-result-is c = quotient_is c.args.loads.now c.args.row.now c.requires (c.args.storey + 1) c.lever-sum.result c.lever-sum-2.result c.nearest-signed-quotient.result c.moved-mass.result c.lever-sum.ensures c.lever-sum-2.ensures c.moved-mass.ensures c.nearest-signed-quotient.ensures
+result-is : (c : goal.After-nearest_signed_quotient) → c.nearest_signed_quotient.result ≡ modal_weight_of (floors_of_loads c.args.loads.now) (ordinates_of c.args.loads.now c.args.row.now) (c.args.storey + 1)
+result-is c = quotient_is c.args.loads.now c.args.row.now c.requires (c.args.storey + 1) c.lever_sum.result c.lever_sum-2.result c.nearest_signed_quotient.result c.moved_mass.result c.lever_sum.ensures c.lever_sum-2.ensures c.moved_mass.ensures c.nearest_signed_quotient.ensures
 
 pub overflow_cast-result : goal.overflow_cast-result
-overflow_cast-result c = narrow_fits c.nearest-signed-quotient.result (modal_weight_of (floors_of_loads c.args.loads.now) (ordinates_of c.args.loads.now c.args.row.now) (c.args.storey + 1)) (result-is c) (weight_small c.args.loads.now (mode_of c.args.loads.now.count c.args.row.now) c.requires (c.args.storey + 1))
+overflow_cast-result c = narrow_fits c.nearest_signed_quotient.result (modal_weight_of (floors_of_loads c.args.loads.now) (ordinates_of c.args.loads.now c.args.row.now) (c.args.storey + 1)) (result-is c) (weight_small c.args.loads.now (mode_of c.args.loads.now.count c.args.row.now) c.requires (c.args.storey + 1))
 
 pub returns : goal.returns
-returns c = narrow_is c.nearest-signed-quotient.result (modal_weight_of (floors_of_loads c.args.loads.now) (ordinates_of c.args.loads.now c.args.row.now) (c.args.storey + 1)) (result-is c) (weight_small c.args.loads.now (mode_of c.args.loads.now.count c.args.row.now) c.requires (c.args.storey + 1))
+returns c = narrow_is c.nearest_signed_quotient.result (modal_weight_of (floors_of_loads c.args.loads.now) (ordinates_of c.args.loads.now c.args.row.now) (c.args.storey + 1)) (result-is c) (weight_small c.args.loads.now (mode_of c.args.loads.now.count c.args.row.now) c.requires (c.args.storey + 1))

@@ -30,13 +30,13 @@ pub overflow_add-sum : goal.overflow_add-sum
 overflow_add-sum c =
     let l = c.args.loads.now in
     let r = c.args.row.now in
-    let m = more l r c.requires c.loop-i.i c.loop-i-test.true c.unsigned-abs-size.result c.unsigned-abs-size.ensures.value in
+    let m = more l r c.requires c.loop-i.i c.loop-i-test.true c.unsigned_abs-size.result c.unsigned_abs-size.ensures.value in
     let s = mass_small l (mode_of l.count r) c.requires in
     omega (arith, m, s, c.loop-i.invariant)
 
 pub loop-i-preserved : goal.loop-i-preserved
 loop-i-preserved c =
-    let m = more c.args.loads.now c.args.row.now c.requires c.loop-i.i c.loop-i-test.true c.unsigned-abs-size.result c.unsigned-abs-size.ensures.value in
+    let m = more c.args.loads.now c.args.row.now c.requires c.loop-i.i c.loop-i-test.true c.unsigned_abs-size.result c.unsigned_abs-size.ensures.value in
     omega (arith, m, c.loop-i.invariant)
 
 pub returns : goal.returns

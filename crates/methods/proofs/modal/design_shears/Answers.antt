@@ -30,14 +30,14 @@ returns-then-base-code c =
 pub overflow_mul-combined : goal.overflow_mul-combined
 overflow_mul-combined c = omega (arith, product c.args.code (get_or c.args.combined.now c.loop-i.i 0) c.requires.low (c.requires.small c.loop-i.i c.loop-i-test.true))
 
-pub invariant-of-scale : goal.invariant-of-scale
-invariant-of-scale c = let some = c.requires.moves c.if-base-code.false in (omega (arith, some), (omega (arith, c.requires.low), tt))
+pub invariant_of-scale : goal.invariant_of-scale
+invariant_of-scale c = let some = c.requires.moves c.if-base-code.false in record { positive = omega (arith, some); within = omega (arith, c.requires.low) }
 
 pub loop-i-preserved : goal.loop-i-preserved
 loop-i-preserved c =
-    let e = c.nearest-quotient.ensures ∙ raised c.args.code (get_or c.args.combined.now 0 0) (get_or c.args.combined.now c.loop-i.i 0) c.if-base-code.false in (
+    let e = c.nearest_quotient.ensures ∙ raised c.args.code (get_or c.args.combined.now 0 0) (get_or c.args.combined.now c.loop-i.i 0) c.if-base-code.false in (
       length-set c.loop-i.design c.loop-i.i _ ∙ c.loop-i.invariant.0,
-      fill_with_more (λ k. design_shear c.args.code (get_or c.args.combined.now 0 0) (get_or c.args.combined.now k 0)) c.loop-i.design c.loop-i.i 0 c.nearest-quotient.result e (omega (arith, c.loop-i.invariant.0, c.requires.few)) c.loop-i.invariant.1,
+      fill_with_more (λ k. design_shear c.args.code (get_or c.args.combined.now 0 0) (get_or c.args.combined.now k 0)) c.loop-i.design c.loop-i.i 0 c.nearest_quotient.result e (omega (arith, c.loop-i.invariant.0, c.requires.few)) c.loop-i.invariant.1,
     )
 
 pub returns : goal.returns

@@ -23,17 +23,17 @@ module _ (s : Shapes) (k : ℕ) (low : k < s.count) (x : ℤ) (x-is : x ≡ moda
 small : (s : Shapes) → modal_weights (floors_in s) (modes_in s) ≤ 6480000
 small s = omega (arith, weights_small s.loads (modes_in s) s.fit, length-map (take s.count s.rows) (mode_of s.loads.count), s.held, s.few)
 
-pub modal-weight-requires : goal.modal-weight-requires
-modal-weight-requires c = let s = c.args.shapes.now in row_usable s.rows s.loads.count s.count c.loop-k.k c.loop-k-test.true s.held s.fit
+pub modal_weight-requires : goal.modal_weight-requires
+modal_weight-requires c = let s = c.args.shapes.now in row_usable s.rows s.loads.count s.count c.loop-k.k c.loop-k-test.true s.held s.fit
 
 pub overflow_add-sum : goal.overflow_add-sum
 overflow_add-sum c =
-    let m = more c.args.shapes.now c.loop-k.k c.loop-k-test.true c.modal-weight.result c.modal-weight.ensures c.unsigned-abs-sum.result c.unsigned-abs-sum.ensures.value in
+    let m = more c.args.shapes.now c.loop-k.k c.loop-k-test.true c.modal_weight.result c.modal_weight.ensures c.unsigned_abs-sum.result c.unsigned_abs-sum.ensures.value in
     omega (arith, m, small c.args.shapes.now, c.loop-k.invariant)
 
 pub loop-k-preserved : goal.loop-k-preserved
 loop-k-preserved c =
-    let m = more c.args.shapes.now c.loop-k.k c.loop-k-test.true c.modal-weight.result c.modal-weight.ensures c.unsigned-abs-sum.result c.unsigned-abs-sum.ensures.value in
+    let m = more c.args.shapes.now c.loop-k.k c.loop-k-test.true c.modal_weight.result c.modal_weight.ensures c.unsigned_abs-sum.result c.unsigned_abs-sum.ensures.value in
     omega (arith, m, c.loop-k.invariant)
 
 pub returns : goal.returns

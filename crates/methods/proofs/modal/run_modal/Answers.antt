@@ -51,16 +51,16 @@ returns g c =
     let q = g.R.Rule.squared c.args.rule.now in
     let ms = modes_in c.args.shapes.now in
     let l = c.args.shapes.now.loads in
-    let combined = c.combined-shears-combined.ensures.are in
-    let code_is = c.in-ok-code.ensures.1 in
-    let moves = sym (λ j. eqb (combined 0 l.some j) 0 && not (eqb (code_is j) 0)) ∙ sym c.is-still.ensures ∙ c.if-is-still.false in
-    let enough : 9 * W (floors_of_loads c.args.shapes.now.loads) ≤ 10 * modal_weights (floors_of_loads c.args.shapes.now.loads) (modes_in c.args.shapes.now) = omega (arith, c.if-weight-shapes.false, c.participating-weight-weight.ensures.is, l.summed) in (
-      accepted s sa q ms (floors_of_loads l) (omega (arith, l.held, l.some)) c.in-ok-code.ensures.0 enough moves,
-      gives s sa q ms l c.in-ok-code.code _ code_is combined c.design-shears-design.ensures.are c.differences.ensures,
+    let combined = c.combined_shears-combined.ensures.are in
+    let code_is = c.in_ok-code.ensures.1 in
+    let moves = sym (λ j. eqb (combined 0 l.some j) 0 && not (eqb (code_is j) 0)) ∙ sym c.is_still.ensures ∙ c.if-is_still.false in
+    let enough : 9 * W (floors_of_loads c.args.shapes.now.loads) ≤ 10 * modal_weights (floors_of_loads c.args.shapes.now.loads) (modes_in c.args.shapes.now) = omega (arith, c.if-weight-shapes.false, c.participating_weight-weight.ensures.is, l.summed) in (
+      accepted s sa q ms (floors_of_loads l) (omega (arith, l.held, l.some)) c.in_ok-code.ensures.0 enough moves,
+      gives s sa q ms l c.in_ok-code.code _ code_is combined c.design_shears-design.ensures.are c.differences.ensures,
     )
 
-pub returns-in-err-code : goal.returns-in-err-code
-returns-in-err-code g c =
+pub returns-in_err-code : goal.returns-in_err-code
+returns-in_err-code g c =
     let l = c.args.shapes.now.loads in
     let p = err_from_is_err_and c.from-residual.result c.from-residual.ensures.1 in
-    rw (p.1, p.2) (too_long c.args.site.now.terms (g.C.Spectrum.ordinate c.args.spectrum.now) (g.R.Rule.squared c.args.rule.now) (modes_in c.args.shapes.now) (floors_of_loads l) (omega (arith, l.held, l.some)) c.in-err-code.field-0.0 c.in-err-code.ensures)
+    rw (p.1, p.2) (too_long c.args.site.now.terms (g.C.Spectrum.ordinate c.args.spectrum.now) (g.R.Rule.squared c.args.rule.now) (modes_in c.args.shapes.now) (floors_of_loads l) (omega (arith, l.held, l.some)) c.in_err-code.field-0.0 c.in_err-code.ensures)

@@ -8,5 +8,5 @@ pub differences-requires : goal.differences-requires
 differences-requires g c =
     let l = c.args.loads.now in (
       l.few,
-      λ k h. omega (arith, c.static-shears-shears.ensures k h, static_size c.in-ok-base.base (floors_of_loads l) (k + 1) (built (floors_of_loads l) l.ranged) (omega (arith, l.held, l.some)), c.in-ok-base.ensures.2),
+      λ k h. omega (arith, c.static_shears-shears.ensures k h, static_size c.in_ok-base.base (floors_of_loads l) (k + 1) (built (floors_of_loads l) l.ranged) (omega (arith, l.held, l.some)), c.in_ok-base.ensures.2),
     )

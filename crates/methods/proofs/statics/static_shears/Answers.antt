@@ -17,12 +17,12 @@ overflow_mul-base c =
     let b : c.args.base * c.loop-i.rest ≤ 720000 * 2000000000000 = mul-le-mul c.requires a in
     omega arith
 
-pub invariant-of-whole : goal.invariant-of-whole
-invariant-of-whole c =
+pub invariant_of-whole : goal.invariant_of-whole
+invariant_of-whole c =
     let l = c.args.loads.now in
     let s = moment_size (floors_of_loads l) l.ranged in
     let p = moment_some (floors_of_loads l) l.ranged (omega (arith, l.held)) in
-    (omega (arith, p, c.moment-of.ensures), (omega (arith, s, c.moment-of.ensures, l.summed, l.light), tt))
+    record { positive = omega (arith, p, c.moment_of.ensures); within = omega (arith, s, c.moment_of.ensures, l.summed, l.light) }
 
 pub overflow_sub-rest : goal.overflow_sub-rest
 overflow_sub-rest c =
@@ -40,8 +40,8 @@ loop-i-preserved c =
     let l = c.args.loads.now in
     let i = c.loop-i.i in
     let m = moment_more l.floors l.count i c.loop-i-test.true l.held in
-    let v = written c.args.base c.loop-i.rest c.moment-of.result c.nearest-quotient.result i (floors_of_loads l) c.nearest-quotient.ensures c.loop-i.invariant.1 c.moment-of.ensures in (
+    let v = written c.args.base c.loop-i.rest c.moment_of.result c.nearest_quotient.result i (floors_of_loads l) c.nearest_quotient.ensures c.loop-i.invariant.1 c.moment_of.ensures in (
       length-set c.loop-i.shears i _ ∙ c.loop-i.invariant.0,
       omega (arith, m, c.loop-i.invariant.1),
-      fill_with_more (λ k. static_shear c.args.base (floors_of_loads c.args.loads.now) (k + 1)) c.loop-i.shears i 0 c.nearest-quotient.result v (omega (arith, c.loop-i.invariant.0, l.few)) c.loop-i.invariant.2,
+      fill_with_more (λ k. static_shear c.args.base (floors_of_loads c.args.loads.now) (k + 1)) c.loop-i.shears i 0 c.nearest_quotient.result v (omega (arith, c.loop-i.invariant.0, l.few)) c.loop-i.invariant.2,
     )

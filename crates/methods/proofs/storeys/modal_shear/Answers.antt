@@ -14,25 +14,25 @@ overflow_mul-a g c =
     let l = c.args.loads.now in
     let r = c.args.row.now in
     let b : c.acceleration-a.result.numerator < 2 ^ 32 = search rules in
-    scaled_fits c.acceleration-a.result.numerator c.modal-weight-weight.result (modal_weight_of (floors_of_loads l) (ordinates_of l r) (c.args.storey + 1)) b c.modal-weight-weight.ensures (weight_small l (mode_of l.count r) c.requires (c.args.storey + 1))
+    scaled_fits c.acceleration-a.result.numerator c.modal_weight-weight.result (modal_weight_of (floors_of_loads l) (ordinates_of l r) (c.args.storey + 1)) b c.modal_weight-weight.ensures (weight_small l (mode_of l.count r) c.requires (c.args.storey + 1))
 
 -- the quotient that is taken
-result-is : (g : given.Over) (c : goal.After-nearest-signed-quotient g) → c.nearest-signed-quotient.result ≡ modal_shear_of c.acceleration-a.result (floors_of_loads c.args.loads.now) (ordinates_of c.args.loads.now c.args.row.now) (c.args.storey + 1)
+result-is : (g : given.Over) (c : goal.After-nearest_signed_quotient g) → c.nearest_signed_quotient.result ≡ modal_shear_of c.acceleration-a.result (floors_of_loads c.args.loads.now) (ordinates_of c.args.loads.now c.args.row.now) (c.args.storey + 1)
 result-is g c =
     let l = c.args.loads.now in
     let r = c.args.row.now in
     let b : c.acceleration-a.result.numerator < 2 ^ 32 = search rules in
-    c.nearest-signed-quotient.ensures ∙ (λ j. nearestℤ (scaled_is c.acceleration-a.result.numerator c.modal-weight-weight.result (modal_weight_of (floors_of_loads l) (ordinates_of l r) (c.args.storey + 1)) b c.modal-weight-weight.ensures (weight_small l (mode_of l.count r) c.requires (c.args.storey + 1)) j) c.acceleration-a.result.denominator)
+    c.nearest_signed_quotient.ensures ∙ (λ j. nearestℤ (scaled_is c.acceleration-a.result.numerator c.modal_weight-weight.result (modal_weight_of (floors_of_loads l) (ordinates_of l r) (c.args.storey + 1)) b c.modal_weight-weight.ensures (weight_small l (mode_of l.count r) c.requires (c.args.storey + 1)) j) c.acceleration-a.result.denominator)
 
 pub overflow_cast-result : goal.overflow_cast-result
 overflow_cast-result g c =
     let l = c.args.loads.now in
     let r = c.args.row.now in
-    narrow_fits c.nearest-signed-quotient.result (modal_shear_of c.acceleration-a.result (floors_of_loads l) (ordinates_of l r) (c.args.storey + 1)) (result-is g c) (shear_small l (mode_of l.count r) c.requires c.acceleration-a.result (c.args.storey + 1) c.acceleration-a.ensures.bounded)
+    narrow_fits c.nearest_signed_quotient.result (modal_shear_of c.acceleration-a.result (floors_of_loads l) (ordinates_of l r) (c.args.storey + 1)) (result-is g c) (shear_small l (mode_of l.count r) c.requires c.acceleration-a.result (c.args.storey + 1) c.acceleration-a.ensures.bounded)
 
 pub returns : goal.returns
 returns g c =
     let l = c.args.loads.now in
     let r = c.args.row.now in
-    narrow_is c.nearest-signed-quotient.result (modal_shear_of c.acceleration-a.result (floors_of_loads l) (ordinates_of l r) (c.args.storey + 1)) (result-is g c) (shear_small l (mode_of l.count r) c.requires c.acceleration-a.result (c.args.storey + 1) c.acceleration-a.ensures.bounded)
+    narrow_is c.nearest_signed_quotient.result (modal_shear_of c.acceleration-a.result (floors_of_loads l) (ordinates_of l r) (c.args.storey + 1)) (result-is g c) (shear_small l (mode_of l.count r) c.requires c.acceleration-a.result (c.args.storey + 1) c.acceleration-a.ensures.bounded)
     ∙ ap (λ (a : Fraction). modal_shear_of a (floors_of_loads l) (ordinates_of l r) (c.args.storey + 1)) c.acceleration-a.ensures.is

@@ -21,15 +21,15 @@ step s a i k low values x held x-is before =
     ∙ (λ j. before j ++ mode (get_or s.rows k blank).period (x-is j) ∷ [])
     ∙ sym (values_more s.rows s.loads.count s.count k low s.held a (floors_in s) i)
 
-pub modal-shear-requires : goal.modal-shear-requires
-modal-shear-requires g c = let s = c.args.shapes.now in row_usable s.rows s.loads.count s.count c.loop-k.k c.loop-k-test.true s.held s.fit
+pub modal_shear-requires : goal.modal_shear-requires
+modal_shear-requires g c = let s = c.args.shapes.now in row_usable s.rows s.loads.count s.count c.loop-k.k c.loop-k-test.true s.held s.fit
 
 pub loop-k-preserved : goal.loop-k-preserved
 loop-k-preserved g c =
     let s = c.args.shapes.now in
     let a = acceleration_of c.args.site.now.terms (g.C.Spectrum.ordinate c.args.spectrum.now) in
-    let e : back w32 c.modal-shear.result ≡ c.modal-shear.result = omega (arith, ints) in
-    (length-set c.loop-k.values c.loop-k.k _ ∙ c.loop-k.invariant.0, step s a (c.args.storey + 1) c.loop-k.k c.loop-k-test.true c.loop-k.values c.modal-shear.result c.loop-k.invariant.0 (e ∙ c.modal-shear.ensures) c.loop-k.invariant.1)
+    let e : back w32 c.modal_shear.result ≡ c.modal_shear.result = omega (arith, ints) in
+    (length-set c.loop-k.values c.loop-k.k _ ∙ c.loop-k.invariant.0, step s a (c.args.storey + 1) c.loop-k.k c.loop-k-test.true c.loop-k.values c.modal_shear.result c.loop-k.invariant.0 (e ∙ c.modal_shear.ensures) c.loop-k.invariant.1)
 
 pub loop-k-init : goal.loop-k-init
 loop-k-init g c = (refl, values_none (acceleration_of c.args.site.now.terms (g.C.Spectrum.ordinate c.args.spectrum.now)) (floors_in c.args.shapes.now) (c.args.storey + 1))

@@ -13,11 +13,11 @@ hyphened (negsuc m) n h e = ap (λ k. 45 ∷ decimal k) e
 pub returns-then-z-lt0 : goal.returns-then-z-lt0
 returns-then-z-lt0 c =
     let fits : SFits w64 c.args.z = search rules in
-    let is = simp to_z-of_z at c.unsigned-abs.ensures.value in
-    let text = hyphened c.args.z c.unsigned-abs.result (simp to_z-of_z at c.if-z-lt0.true) is in
+    let is = simp to_z-of_z at c.unsigned_abs.ensures.value in
+    let text = hyphened c.args.z c.unsigned_abs.result (simp to_z-of_z at c.if-z-lt0.true) is in
     let room : c.args.at ≤ length c.args.out.now = omega arith in
-    let ends : c.put-number.result ≡ c.args.at + length (signed_decimal c.args.z) =
-    omega (arith, c.put-after.ensures.end, c.put-number.ensures.end, ap length text)
+    let ends : c.put_number.result ≡ c.args.at + length (signed_decimal c.args.z) =
+    omega (arith, c.put-after.ensures.end, c.put_number.ensures.end, ap length text)
     in
-    let wrote = simp text at (and_then c.put-after.ensures c.put-number.ensures room) in
+    let wrote = simp text at (and_then c.put-after.ensures c.put_number.ensures room) in
     record { after = wrote.after; end = ends }

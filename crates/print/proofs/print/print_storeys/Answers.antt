@@ -11,7 +11,7 @@ returns-else-storeys-eq0-2 c =
     let room : length (forces_text s.count s.design s.forces) ≤ length c.args.buffer.now =
     elim c.if-storeys-eq0.branch [
       | then-storeys-eq0 w ↦ absurd (c.if-storeys-eq0-2.false w.if-storeys-eq0.true)
-      | else-storeys-eq0 w ↦ omega (arith, c.if-buffer-needed.false, w.needed-is, w.forces-len-needed.ensures)
+      | else-storeys-eq0 w ↦ omega (arith, c.if-buffer-needed.false, w.needed-is, w.forces_len-needed.ensures)
     ]
     in
-    simp e (record { cases = from_start c.put-forces.ensures room c.put-forces.auto.out })
+    simp e (record { cases = from_start c.put_forces.ensures room c.put_forces.auto.out })

@@ -9,8 +9,8 @@ use Rattle.print.proofs.print.put_lines.Goals as goal
 pub loop-i-init : goal.loop-i-init
 loop-i-init c = (c.requires, λ p b w. w)
 
-pub put-line-at-requires : goal.put-line-at-requires
-put-line-at-requires c =
+pub put_line-at-requires : goal.put_line-at-requires
+put_line-at-requires c =
     let s = c.args.storeys.now in
     let l = c.loop-i in
     omega (arith, l.invariant.0, length_first l.i s.design s.forces c.loop-i-test.true)
@@ -19,7 +19,7 @@ pub loop-i-preserved : goal.loop-i-preserved
 loop-i-preserved c =
     let s = c.args.storeys.now in
     let l = c.loop-i in
-    let line = c.put-line-at.ensures in
+    let line = c.put_line-at.ensures in
     let long = length_first l.i s.design s.forces c.loop-i-test.true in
     let first = sym (line_first l.i s.design s.forces c.loop-i-test.true) in (
       omega (arith, line.end, l.invariant.0),

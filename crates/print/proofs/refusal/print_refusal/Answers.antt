@@ -18,20 +18,20 @@ place_short n h = length-decimal-le 10 n (omega arith) (omega arith) (omega arit
 length_refusal : (position number place : ℕ) → length (refusal_text position number place) ≡ length (decimal position) + length (decimal number) + length (decimal place) + 11
 length_refusal position number place = simp length-append (omega arith)
 
-pub put-number-at-requires : goal.put-number-at-requires
-put-number-at-requires c = omega (arith, position_short c.args.position (search rules))
+pub put_number-at-requires : goal.put_number_at-requires
+put_number-at-requires c = omega (arith, position_short c.args.position (search rules))
 
 pub put-at-requires-2 : goal.put-at-requires-2
 put-at-requires-2 c = omega (arith, position_short c.args.position (search rules))
 
-pub put-number-at-requires-2 : goal.put-number-at-requires-2
-put-number-at-requires-2 c = omega (arith, position_short c.args.position (search rules), number_short c.number.result c.number.type-inv)
+pub put_number-at-requires-2 : goal.put_number_at-requires-2
+put_number-at-requires-2 c = omega (arith, position_short c.args.position (search rules), number_short c.number.result c.number.type-inv)
 
 pub put-at-requires-3 : goal.put-at-requires-3
 put-at-requires-3 c = omega (arith, position_short c.args.position (search rules), number_short c.number.result c.number.type-inv)
 
-pub put-number-at-requires-3 : goal.put-number-at-requires-3
-put-number-at-requires-3 c = omega (arith, position_short c.args.position (search rules), number_short c.number.result c.number.type-inv, place_short c.args.fault.now.place (search rules))
+pub put_number-at-requires-3 : goal.put_number_at-requires-3
+put_number-at-requires-3 c = omega (arith, position_short c.args.position (search rules), number_short c.number.result c.number.type-inv, place_short c.args.fault.now.place (search rules))
 
 pub put-requires : goal.put-requires
 put-requires c = omega (arith, position_short c.args.position (search rules), number_short c.number.result c.number.type-inv, place_short c.args.fault.now.place (search rules))
@@ -43,11 +43,11 @@ returns c =
     let d = place_short c.args.fault.now.place (search rules) in
     let all : Wrote c.args.line.now 0 (refusal_text c.args.position c.number.result c.args.fault.now.place) c.put.new.out c.put.result =
     and_then c.put-at.ensures
-    (and_then c.put-number-at.ensures
+    (and_then c.put_number_at.ensures
     (and_then c.put-at-2.ensures
-    (and_then c.put-number-at-2.ensures
+    (and_then c.put_number_at-2.ensures
     (and_then c.put-at-3.ensures
-    (and_then c.put-number-at-3.ensures c.put.ensures
+    (and_then c.put_number_at-3.ensures c.put.ensures
     (omega arith)) (omega arith)) (omega arith)) (omega arith)) (omega arith)) (omega arith)
     in
     subst (λ (n : ℕ). Printed (refusal_text c.args.position n c.args.fault.now.place) c.args.line.now c.put.new.out c.put.result) c.number.ensures

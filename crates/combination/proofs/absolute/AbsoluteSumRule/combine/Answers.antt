@@ -1,7 +1,6 @@
 use Rattle.std.proofs.Common.{◌≡◌, ℕ, ◌+◌, ◌<◌, List, length, get_or, drop, pos, sym, ◌∙◌, arith, w32, SFits, rules}
 use Rattle.std.proofs.lemmas.List.{at_drop_more, at_drop_all}
 use Rattle.std.proofs.lemmas.Int.{to_z-of_z}
-use Rattle.rounding.specs.Roots.{root}
 use Rattle.rounding.proofs.Roots.{root_laws}
 use Rattle.combination.specs.declared.response.Response.{Response}
 use Rattle.combination.specs.Values.{mode, size, total}
@@ -19,12 +18,12 @@ stepped sum i r xs h l e =
 pub overflow_add-sum : goal.overflow_add-sum
 overflow_add-sum c =
     let f : SFits w32 (get_or c.args.list.items.now c.loop-x.x-index (mode 0 (pos 0))).value = search rules in
-    omega (arith, stepped c.loop-x.sum c.loop-x.x-index c.unsigned-abs-sum.result c.args.list.items.now c.loop-x.invariant c.loop-x-test.true (simp to_z-of_z at c.unsigned-abs-sum.ensures.value), c.args.list.sound.2)
+    omega (arith, stepped c.loop-x.sum c.loop-x.x-index c.unsigned_abs-sum.result c.args.list.items.now c.loop-x.invariant c.loop-x-test.true (simp to_z-of_z at c.unsigned_abs-sum.ensures.value), c.args.list.sound.2)
 
 pub loop-x-preserved : goal.loop-x-preserved
 loop-x-preserved c =
     let f : SFits w32 (get_or c.args.list.items.now c.loop-x.x-index (mode 0 (pos 0))).value = search rules in
-    stepped c.loop-x.sum c.loop-x.x-index c.unsigned-abs-sum.result c.args.list.items.now c.loop-x.invariant c.loop-x-test.true (simp to_z-of_z at c.unsigned-abs-sum.ensures.value)
+    stepped c.loop-x.sum c.loop-x.x-index c.unsigned_abs-sum.result c.args.list.items.now c.loop-x.invariant c.loop-x-test.true (simp to_z-of_z at c.unsigned_abs-sum.ensures.value)
 
 -- the sum is the root of its own square
 pub returns : goal.returns

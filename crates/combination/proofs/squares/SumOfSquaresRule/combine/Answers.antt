@@ -21,12 +21,12 @@ stepped sum i r xs h l e =
 pub overflow_add-sum : goal.overflow_add-sum
 overflow_add-sum c =
     let f : SFits w32 (get_or c.args.list.items.now c.loop-x.x-index (mode 0 (pos 0))).value = search rules in
-    omega (arith, stepped c.loop-x.sum c.loop-x.x-index c.unsigned-abs-size.result c.args.list.items.now c.loop-x.invariant c.loop-x-test.true (simp to_z-of_z at c.unsigned-abs-size.ensures.value), squares_small c.args.list.items.now c.args.list.sound.2)
+    omega (arith, stepped c.loop-x.sum c.loop-x.x-index c.unsigned_abs-size.result c.args.list.items.now c.loop-x.invariant c.loop-x-test.true (simp to_z-of_z at c.unsigned_abs-size.ensures.value), squares_small c.args.list.items.now c.args.list.sound.2)
 
 pub loop-x-preserved : goal.loop-x-preserved
 loop-x-preserved c =
     let f : SFits w32 (get_or c.args.list.items.now c.loop-x.x-index (mode 0 (pos 0))).value = search rules in
-    stepped c.loop-x.sum c.loop-x.x-index c.unsigned-abs-size.result c.args.list.items.now c.loop-x.invariant c.loop-x-test.true (simp to_z-of_z at c.unsigned-abs-size.ensures.value)
+    stepped c.loop-x.sum c.loop-x.x-index c.unsigned_abs-size.result c.args.list.items.now c.loop-x.invariant c.loop-x-test.true (simp to_z-of_z at c.unsigned_abs-size.ensures.value)
 
 ended : (sum i : ℕ) (xs : List Response) → sum + squares (drop i xs) ≡ squares xs → length xs ≤ i → sum ≡ squares xs
 ended sum i xs h l =
@@ -38,7 +38,7 @@ pub overflow_cast-result : goal.overflow_cast-result
 overflow_cast-result c =
     let e : c.loop-x.sum ≡ squares c.args.list.items.now = ended _ _ c.args.list.items.now c.loop-x.invariant c.loop-x-test.false in
     let h : root c.loop-x.sum ≤ largest = root_at_most _ largest (omega (arith, e, squares_small c.args.list.items.now c.args.list.sound.2)) in
-    omega (arith, h, c.nearest-root.ensures)
+    omega (arith, h, c.nearest_root.ensures)
 
 pub returns : goal.returns
-returns c = c.nearest-root.ensures ∙ ap root (ended _ _ c.args.list.items.now c.loop-x.invariant c.loop-x-test.false)
+returns c = c.nearest_root.ensures ∙ ap root (ended _ _ c.args.list.items.now c.loop-x.invariant c.loop-x-test.false)

@@ -12,6 +12,6 @@ same_text n m ds es fs gs p q r = ap (λ (k : ℕ). text_of k ds fs) p ∙ ap (�
 pub returns : goal.returns
 returns c =
     let same : c.sheet.result.now ≡ c.args.self.now.sheet = c.sheet.ensures in
-    let text : text_of c.storeys-of-storeys.result.count c.storeys-of-storeys.result.design c.storeys-of-storeys.result.forces ≡ sheet_text c.args.self.now.sheet =
-    same_text _ _ _ _ _ _ c.storeys-of-storeys.ensures.count c.storeys-of-storeys.ensures.design c.storeys-of-storeys.ensures.forces ∙ ap sheet_text same in
-    subst (λ (t : List ℕ). MatchResult c.print-storeys.result (λ n. Printed t c.args.buffer.now c.print-storeys.new.buffer n) (λ f. TooShort t c.args.buffer.now c.print-storeys.new.buffer f)) text c.print-storeys.ensures.cases
+    let text : text_of c.storeys_of-storeys.result.count c.storeys_of-storeys.result.design c.storeys_of-storeys.result.forces ≡ sheet_text c.args.self.now.sheet =
+    same_text _ _ _ _ _ _ c.storeys_of-storeys.ensures.count c.storeys_of-storeys.ensures.design c.storeys_of-storeys.ensures.forces ∙ ap sheet_text same in
+    subst (λ (t : List ℕ). MatchResult c.print_storeys.result (λ n. Printed t c.args.buffer.now c.print_storeys.new.buffer n) (λ f. TooShort t c.args.buffer.now c.print_storeys.new.buffer f)) text c.print_storeys.ensures.cases

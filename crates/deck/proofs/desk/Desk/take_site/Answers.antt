@@ -24,5 +24,5 @@ taken d d' v t none ok is site sheet =
 
 pub returns : goal.returns
 returns c =
-    let h = c.in-ok-site.ensures in
-    taken c.args.self.now _ c.args.values.now c.in-ok-site.site.terms (no_site c.args.self.now.site (sym c.is-some.ensures ∙ c.if-is-some.false)) h.0 h.1 refl refl
+    let h = c.in_ok-site.ensures in
+    taken c.args.self.now _ c.args.values.now c.in_ok-site.site.terms (no_site c.args.self.now.site (sym c.is_some.ensures ∙ c.if-is_some.false)) h.0 h.1 refl refl

@@ -52,56 +52,29 @@ module _ (s : Sheet) (m : ModeShape) (reached : Bool) (out : ℕ) (zeros : Bool)
     long_now : length (rows_of modes) ≡ s.modes.count + 1
     long_now = ap length rows ∙ length_push (rows_of s.modes) _ ∙ ap (λ (n : ℕ). n + 1) s.modes_held
 
-pub returns-in-err-judge-mode : goal.returns-in-err-judge-mode
-returns-in-err-judge-mode c =
+pub returns-in_err-judge_mode : goal.returns-in_err-judge_mode
+returns-in_err-judge_mode c =
     let s = c.args.self.now in
     let m = c.args.shape.now in
     let p = err_from_is_err_and c.from-residual.result c.from-residual.ensures.1 in
-    let v = c.in-err-judge-mode.ensures ∙ judged s m c.reaches-down-to-reached.result c.first-outside-outside.result c.is-all-zero-zeros.result c.reaches-down-to-reached.ensures c.first-outside-outside.ensures c.is-all-zero-zeros.ensures in
+    let v = c.in_err-judge_mode.ensures ∙ judged s m c.reaches_down_to-reached.result c.first_outside-outside.result c.is_all_zero-zeros.result c.reaches_down_to-reached.ensures c.first_outside-outside.ensures c.is_all_zero-zeros.ensures in
     refused s (mode m.period m.count (typed m)) c.from-residual.result p.0 p.1 (ap Err p.2 ∙ v)
 
-pub invariant-of-self : goal.invariant-of-self
-invariant-of-self c =
+pub invariant_of-self : goal.invariant_of-self
+invariant_of-self c =
     let s = c.args.self.now in
     let m = c.args.shape.now in
     let long : length c.args.shape.now.ordinates ≡ 40 = search rules in
-    let t = mode_taken s.table.count s.modes.count m.period m.count c.reaches-down-to-reached.result c.first-outside-outside.result c.is-all-zero-zeros.result (sym c.in-ok-judge-mode.ensures) in
-    let held = held_now s m c.reaches-down-to-reached.result c.first-outside-outside.result c.is-all-zero-zeros.result c.reaches-down-to-reached.ensures c.first-outside-outside.ensures c.is-all-zero-zeros.ensures t long c.push.new.self c.push.ensures.rows in
-    let falls = falls_now s m c.reaches-down-to-reached.result c.first-outside-outside.result c.is-all-zero-zeros.result c.reaches-down-to-reached.ensures c.first-outside-outside.ensures c.is-all-zero-zeros.ensures t long c.push.new.self c.push.ensures.rows in
-    let moving = usable_now s m c.reaches-down-to-reached.result c.first-outside-outside.result c.is-all-zero-zeros.result c.reaches-down-to-reached.ensures c.first-outside-outside.ensures c.is-all-zero-zeros.ensures t long c.push.new.self c.push.ensures.rows in
-    let rows = long_now s m c.reaches-down-to-reached.result c.first-outside-outside.result c.is-all-zero-zeros.result c.reaches-down-to-reached.ensures c.first-outside-outside.ensures c.is-all-zero-zeros.ensures t long c.push.new.self c.push.ensures.rows in (
-      s.few,
-      (
-        s.held,
-        (
-          s.rising,
-          (
-            s.ranged,
-            (
-              s.summed,
-              (
-                s.light,
-                (
-                  omega (arith, t.room, c.push.ensures.count),
-                  (
-                    rows ∙ sym c.push.ensures.count,
-                    (
-                      subst (λ (ms : List Mode). falls_from 4001 ms ≡ true) (sym held) falls,
-                      (subst (λ (ms : List Mode). every (usable c.args.self.now.table.count) ms ≡ true) (sym held) moving, (draft_forced c.after.result s.table.count s.design s.forces c.after.ensures, tt)),
-                    ),
-                  ),
-                ),
-              ),
-            ),
-          ),
-        ),
-      ),
-    )
+    let t = mode_taken s.table.count s.modes.count m.period m.count c.reaches_down_to-reached.result c.first_outside-outside.result c.is_all_zero-zeros.result (sym c.in_ok-judge_mode.ensures) in
+    let held = held_now s m c.reaches_down_to-reached.result c.first_outside-outside.result c.is_all_zero-zeros.result c.reaches_down_to-reached.ensures c.first_outside-outside.ensures c.is_all_zero-zeros.ensures t long c.push.new.self c.push.ensures.rows in
+    let falls = falls_now s m c.reaches_down_to-reached.result c.first_outside-outside.result c.is_all_zero-zeros.result c.reaches_down_to-reached.ensures c.first_outside-outside.ensures c.is_all_zero-zeros.ensures t long c.push.new.self c.push.ensures.rows in
+    let moving = usable_now s m c.reaches_down_to-reached.result c.first_outside-outside.result c.is_all_zero-zeros.result c.reaches_down_to-reached.ensures c.first_outside-outside.ensures c.is_all_zero-zeros.ensures t long c.push.new.self c.push.ensures.rows in
+    let rows = long_now s m c.reaches_down_to-reached.result c.first_outside-outside.result c.is_all_zero-zeros.result c.reaches_down_to-reached.ensures c.first_outside-outside.ensures c.is_all_zero-zeros.ensures t long c.push.new.self c.push.ensures.rows in record { few = s.few; held = s.held; rising = s.rising; ranged = s.ranged; summed = s.summed; light = s.light; modes_few = omega (arith, t.room, c.push.ensures.count); modes_held = rows ∙ sym c.push.ensures.count; falling = subst (λ (ms : List Mode). falls_from 4001 ms ≡ true) (sym held) falls; moving = subst (λ (ms : List Mode). every (usable c.args.self.now.table.count) ms ≡ true) (sym held) moving; forced = draft_forced c.after.result s.table.count s.design s.forces c.after.ensures }
 
 pub returns : goal.returns
 returns c =
     let s = c.args.self.now in
     let m = c.args.shape.now in
     let long : length c.args.shape.now.ordinates ≡ 40 = search rules in
-    let t = mode_taken s.table.count s.modes.count m.period m.count c.reaches-down-to-reached.result c.first-outside-outside.result c.is-all-zero-zeros.result (sym c.in-ok-judge-mode.ensures) in
-    edited s _ (mode m.period m.count (typed m)) (c.in-ok-judge-mode.ensures ∙ judged s m c.reaches-down-to-reached.result c.first-outside-outside.result c.is-all-zero-zeros.result c.reaches-down-to-reached.ensures c.first-outside-outside.ensures c.is-all-zero-zeros.ensures) c.after.ensures refl (held_now s m c.reaches-down-to-reached.result c.first-outside-outside.result c.is-all-zero-zeros.result c.reaches-down-to-reached.ensures c.first-outside-outside.ensures c.is-all-zero-zeros.ensures t long c.push.new.self c.push.ensures.rows) (λ i. refl)
+    let t = mode_taken s.table.count s.modes.count m.period m.count c.reaches_down_to-reached.result c.first_outside-outside.result c.is_all_zero-zeros.result (sym c.in_ok-judge_mode.ensures) in
+    edited s _ (mode m.period m.count (typed m)) (c.in_ok-judge_mode.ensures ∙ judged s m c.reaches_down_to-reached.result c.first_outside-outside.result c.is_all_zero-zeros.result c.reaches_down_to-reached.ensures c.first_outside-outside.ensures c.is_all_zero-zeros.ensures) c.after.ensures refl (held_now s m c.reaches_down_to-reached.result c.first_outside-outside.result c.is_all_zero-zeros.result c.reaches_down_to-reached.ensures c.first_outside-outside.ensures c.is_all_zero-zeros.ensures t long c.push.new.self c.push.ensures.rows) (λ i. refl)

@@ -19,68 +19,41 @@ use Rattle.sheet.proofs.sheet.Sheet.reweigh.Goals as goal
 judged : (s : Sheet) (place old i w : ℕ) → place ≡ i - 1 → old ≡ weight_at (floors_in s) place → verdict (reweigh_grounds s.table.count s.total old i w) ≡ verdict (refusals (floors_in s) (modes_in s) (reweigh i w))
 judged s place old i w p e = λ j. verdict (reweigh_grounds (sym s.held j) (s.summed j) ((e ∙ ap (weight_at (floors_in s)) p) j) i w)
 
-pub judge-reweigh-requires : goal.judge-reweigh-requires
-judge-reweigh-requires c = let s = c.args.self.now in (s.light, omega (arith, c.weight-old.ensures, weight_within (floors_in s) c.saturating-sub-place.result, s.summed))
+pub judge_reweigh-requires : goal.judge_reweigh-requires
+judge_reweigh-requires c = let s = c.args.self.now in (s.light, omega (arith, c.weight-old.ensures, weight_within (floors_in s) c.saturating_sub-place.result, s.summed))
 
 pub overflow_sub-self : goal.overflow_sub-self
-overflow_sub-self c = let s = c.args.self.now in omega (arith, c.weight-old.ensures, weight_within (floors_in s) c.saturating-sub-place.result, s.summed)
+overflow_sub-self c = let s = c.args.self.now in omega (arith, c.weight-old.ensures, weight_within (floors_in s) c.saturating_sub-place.result, s.summed)
 
-pub returns-in-err-judge-reweigh : goal.returns-in-err-judge-reweigh
-returns-in-err-judge-reweigh c =
+pub returns-in_err-judge_reweigh : goal.returns-in_err-judge_reweigh
+returns-in_err-judge_reweigh c =
     let s = c.args.self.now in
     let p = err_from_is_err_and c.from-residual.result c.from-residual.ensures.1 in
-    let v = c.in-err-judge-reweigh.ensures ∙ judged s c.saturating-sub-place.result c.weight-old.result c.args.floor c.args.weight c.saturating-sub-place.ensures c.weight-old.ensures in
+    let v = c.in_err-judge_reweigh.ensures ∙ judged s c.saturating_sub-place.result c.weight-old.result c.args.floor c.args.weight c.saturating_sub-place.ensures c.weight-old.ensures in
     refused s (reweigh c.args.floor c.args.weight) c.from-residual.result p.0 p.1 (ap Err p.2 ∙ v)
 
-pub set-weight-requires : goal.set-weight-requires
-set-weight-requires c =
+pub set_weight-requires : goal.set_weight-requires
+set_weight-requires c =
     let s = c.args.self.now in
-    let t = reweigh_taken s.table.count s.total c.weight-old.result c.args.floor c.args.weight (sym c.in-ok-judge-reweigh.ensures) in
-    (omega (arith, t.low, t.high, c.saturating-sub-place.ensures), s.few)
+    let t = reweigh_taken s.table.count s.total c.weight-old.result c.args.floor c.args.weight (sym c.in_ok-judge_reweigh.ensures) in
+    (omega (arith, t.low, t.high, c.saturating_sub-place.ensures), s.few)
 
-pub invariant-of-self : goal.invariant-of-self
-invariant-of-self c =
+pub invariant_of-self : goal.invariant_of-self
+invariant_of-self c =
     let s = c.args.self.now in
-    let k = c.saturating-sub-place.result in
+    let k = c.saturating_sub-place.result in
     let w = c.args.weight in
-    let t = reweigh_taken s.table.count s.total c.weight-old.result c.args.floor c.args.weight (sym c.in-ok-judge-reweigh.ensures) in
-    let l : c.saturating-sub-place.result < length (floors_in c.args.self.now) = omega (arith, t.low, t.high, c.saturating-sub-place.ensures, s.held) in
-    let is = c.set-weight.ensures.floors in
-    let n-is = c.set-weight.ensures.count in
-    let up : rises_from 0 (floors_of c.set-weight.new.self) ≡ true = subst (λ (fs : List Floor). rises_from 0 fs ≡ true) (sym is) (rises_reweighed (floors_in s) k w l s.rising) in
-    let all : every in_range (floors_of c.set-weight.new.self) ≡ true = subst (λ (fs : List Floor). every in_range fs ≡ true) (sym is) (ranged_reweighed (floors_in s) k w l s.ranged t.weight) in
-    let sum : c.args.self.now.total - c.weight-old.result + c.args.weight ≡ W (floors_of c.set-weight.new.self) = (λ j. s.summed j - c.weight-old.ensures j + c.args.weight) ∙ sym (ap W is ∙ weight_reweighed (floors_in s) k w l) in
-    let long : length (floors_of c.set-weight.new.self) ≡ c.set-weight.new.self.count = ap length is ∙ length_reweighed (floors_in s) k w ∙ s.held ∙ sym n-is in (
-      omega (arith, n-is, s.few),
-      (
-        long,
-        (
-          up,
-          (
-            all,
-            (
-              sum,
-              (
-                t.light,
-                (
-                  s.modes_few,
-                  (
-                    s.modes_held,
-                    (
-                      subst (λ (n : ℕ). falls_from 4001 (modes_held_in n c.args.self.now.modes) ≡ true) (sym n-is) s.falling,
-                      (subst (λ (n : ℕ). every (usable n) (modes_held_in n c.args.self.now.modes) ≡ true) (sym n-is) s.moving, (draft_forced c.after.result c.set-weight.new.self.count c.args.self.now.design c.args.self.now.forces c.after.ensures, tt)),
-                    ),
-                  ),
-                ),
-              ),
-            ),
-          ),
-        ),
-      ),
-    )
+    let t = reweigh_taken s.table.count s.total c.weight-old.result c.args.floor c.args.weight (sym c.in_ok-judge_reweigh.ensures) in
+    let l : c.saturating_sub-place.result < length (floors_in c.args.self.now) = omega (arith, t.low, t.high, c.saturating_sub-place.ensures, s.held) in
+    let is = c.set_weight.ensures.floors in
+    let n-is = c.set_weight.ensures.count in
+    let up : rises_from 0 (floors_of c.set_weight.new.self) ≡ true = subst (λ (fs : List Floor). rises_from 0 fs ≡ true) (sym is) (rises_reweighed (floors_in s) k w l s.rising) in
+    let all : every in_range (floors_of c.set_weight.new.self) ≡ true = subst (λ (fs : List Floor). every in_range fs ≡ true) (sym is) (ranged_reweighed (floors_in s) k w l s.ranged t.weight) in
+    let sum : c.args.self.now.total - c.weight-old.result + c.args.weight ≡ W (floors_of c.set_weight.new.self) = (λ j. s.summed j - c.weight-old.ensures j + c.args.weight) ∙ sym (ap W is ∙ weight_reweighed (floors_in s) k w l) in
+    let long : length (floors_of c.set_weight.new.self) ≡ c.set_weight.new.self.count = ap length is ∙ length_reweighed (floors_in s) k w ∙ s.held ∙ sym n-is in record { few = omega (arith, n-is, s.few); held = long; rising = up; ranged = all; summed = sum; light = t.light; modes_few = s.modes_few; modes_held = s.modes_held; falling = subst (λ (n : ℕ). falls_from 4001 (modes_held_in n c.args.self.now.modes) ≡ true) (sym n-is) s.falling; moving = subst (λ (n : ℕ). every (usable n) (modes_held_in n c.args.self.now.modes) ≡ true) (sym n-is) s.moving; forced = draft_forced c.after.result c.set_weight.new.self.count c.args.self.now.design c.args.self.now.forces c.after.ensures }
 
 pub returns : goal.returns
 returns c =
     let s = c.args.self.now in
-    let v = c.in-ok-judge-reweigh.ensures ∙ judged s c.saturating-sub-place.result c.weight-old.result c.args.floor c.args.weight c.saturating-sub-place.ensures c.weight-old.ensures in
-    edited s _ (reweigh c.args.floor c.args.weight) v c.after.ensures (c.set-weight.ensures.floors ∙ ap (λ (k : ℕ). reweighed (floors_in s) k c.args.weight) c.saturating-sub-place.ensures) (ap (λ (n : ℕ). modes_held_in n s.modes) c.set-weight.ensures.count) (λ i. refl)
+    let v = c.in_ok-judge_reweigh.ensures ∙ judged s c.saturating_sub-place.result c.weight-old.result c.args.floor c.args.weight c.saturating_sub-place.ensures c.weight-old.ensures in
+    edited s _ (reweigh c.args.floor c.args.weight) v c.after.ensures (c.set_weight.ensures.floors ∙ ap (λ (k : ℕ). reweighed (floors_in s) k c.args.weight) c.saturating_sub-place.ensures) (ap (λ (n : ℕ). modes_held_in n s.modes) c.set_weight.ensures.count) (λ i. refl)

@@ -43,24 +43,24 @@ returns-then-self-eq0 g c =
     let q = g.R.Rule.squared c.args.rule.now in
     refused s (modal c.args.site.now.terms sa q) (Err (fault NoFloors 0)) (fault NoFloors 0) refl (empty s c.args.site.now.terms sa q (omega arith))
 
-pub returns-in-err-outcome : goal.returns-in-err-outcome
-returns-in-err-outcome g c =
+pub returns-in_err-outcome : goal.returns-in_err-outcome
+returns-in_err-outcome g c =
     let s = c.args.self.now in
     let t = c.args.site.now.terms in
     let sa = g.C.Spectrum.ordinate c.args.spectrum.now in
     let q = g.R.Rule.squared c.args.rule.now in
     let p = err_from_is_err_and c.from-residual.result c.from-residual.ensures.1 in
-    let v = answer s t sa q (floors_seen c.shapes-of.result) (modes_seen c.shapes-of.result) c.shapes-of.ensures.floors c.shapes-of.ensures.modes (Err c.in-err-outcome.field-0.0) c.in-err-outcome.ensures in
+    let v = answer s t sa q (floors_seen c.shapes_of.result) (modes_seen c.shapes_of.result) c.shapes_of.ensures.floors c.shapes_of.ensures.modes (Err c.in_err-outcome.field-0.0) c.in_err-outcome.ensures in
     refused s (modal t sa q) c.from-residual.result p.0 p.1 (ap Err p.2 ∙ sym v)
 
-pub invariant-of-self : goal.invariant-of-self
-invariant-of-self g c =
+pub invariant_of-self : goal.invariant_of-self
+invariant_of-self g c =
     let s = c.args.self.now in
     let t = c.args.site.now.terms in
     let sa = g.C.Spectrum.ordinate c.args.spectrum.now in
     let q = g.R.Rule.squared c.args.rule.now in
-    let o = gives s t sa q (floors_seen c.shapes-of.result) (modes_seen c.shapes-of.result) c.shapes-of.ensures.floors c.shapes-of.ensures.modes c.in-ok-outcome.outcome c.in-ok-outcome.ensures in
-    (s.few, (s.held, (s.rising, (s.ranged, (s.summed, (s.light, (s.modes_few, (s.modes_held, (s.falling, (s.moving, (λ _. o.forces, tt)))))))))))
+    let o = gives s t sa q (floors_seen c.shapes_of.result) (modes_seen c.shapes_of.result) c.shapes_of.ensures.floors c.shapes_of.ensures.modes c.in_ok-outcome.outcome c.in_ok-outcome.ensures in
+    record { few = s.few; held = s.held; rising = s.rising; ranged = s.ranged; summed = s.summed; light = s.light; modes_few = s.modes_few; modes_held = s.modes_held; falling = s.falling; moving = s.moving; forced = λ _. o.forces }
 
 pub returns : goal.returns
 returns g c =
@@ -68,11 +68,11 @@ returns g c =
     let t = c.args.site.now.terms in
     let sa = g.C.Spectrum.ordinate c.args.spectrum.now in
     let q = g.R.Rule.squared c.args.rule.now in
-    let fs = floors_seen c.shapes-of.result in
-    let ms = modes_seen c.shapes-of.result in
-    let o = c.in-ok-outcome.outcome in
-    let h = gives s t sa q fs ms c.shapes-of.ensures.floors c.shapes-of.ensures.modes o c.in-ok-outcome.ensures in
-    let v = answer s t sa q fs ms c.shapes-of.ensures.floors c.shapes-of.ensures.modes (Ok o) c.in-ok-outcome.ensures in
+    let fs = floors_seen c.shapes_of.result in
+    let ms = modes_seen c.shapes_of.result in
+    let o = c.in_ok-outcome.outcome in
+    let h = gives s t sa q fs ms c.shapes_of.ensures.floors c.shapes_of.ensures.modes o c.in_ok-outcome.ensures in
+    let v = answer s t sa q fs ms c.shapes_of.ensures.floors c.shapes_of.ensures.modes (Ok o) c.in_ok-outcome.ensures in
     let combined = modal_combined t sa q (counted (floors_in s)) (modes_in s) in
     let design = modal_design t sa q (counted (floors_in s)) (modes_in s) in
     ran_to s _ (modal t sa q) combined design o (sym v.0) refl refl (ap is_run c.after.ensures) refl refl refl h (λ i. ap (λ (n : ℕ). shown n combined design i) (sym s.held))

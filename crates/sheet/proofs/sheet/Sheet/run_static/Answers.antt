@@ -40,31 +40,31 @@ returns-then-self-eq0 g c =
     let sa = g.C.Spectrum.ordinate c.args.spectrum.now in
     refused s (static c.args.site.now.terms sa) (Err (fault NoFloors 0)) (fault NoFloors 0) refl (empty s c.args.site.now.terms sa (omega arith))
 
-pub returns-in-err-outcome : goal.returns-in-err-outcome
-returns-in-err-outcome g c =
+pub returns-in_err-outcome : goal.returns-in_err-outcome
+returns-in_err-outcome g c =
     let s = c.args.self.now in
     let t = c.args.site.now.terms in
     let sa = g.C.Spectrum.ordinate c.args.spectrum.now in
     let p = err_from_is_err_and c.from-residual.result c.from-residual.ensures.1 in
-    let v = answer s t sa (floors_of_loads c.loads-of.result) c.loads-of.ensures.floors (Err c.in-err-outcome.field-0.0) c.in-err-outcome.ensures in
+    let v = answer s t sa (floors_of_loads c.loads_of.result) c.loads_of.ensures.floors (Err c.in_err-outcome.field-0.0) c.in_err-outcome.ensures in
     refused s (static t sa) c.from-residual.result p.0 p.1 (ap Err p.2 ∙ sym v)
 
-pub invariant-of-self : goal.invariant-of-self
-invariant-of-self g c =
+pub invariant_of-self : goal.invariant_of-self
+invariant_of-self g c =
     let s = c.args.self.now in
     let t = c.args.site.now.terms in
     let sa = g.C.Spectrum.ordinate c.args.spectrum.now in
-    let o = gives s t sa (floors_of_loads c.loads-of.result) c.loads-of.ensures.floors c.in-ok-outcome.outcome c.in-ok-outcome.ensures in
-    (s.few, (s.held, (s.rising, (s.ranged, (s.summed, (s.light, (s.modes_few, (s.modes_held, (s.falling, (s.moving, (λ _. o.forces, tt)))))))))))
+    let o = gives s t sa (floors_of_loads c.loads_of.result) c.loads_of.ensures.floors c.in_ok-outcome.outcome c.in_ok-outcome.ensures in
+    record { few = s.few; held = s.held; rising = s.rising; ranged = s.ranged; summed = s.summed; light = s.light; modes_few = s.modes_few; modes_held = s.modes_held; falling = s.falling; moving = s.moving; forced = λ _. o.forces }
 
 pub returns : goal.returns
 returns g c =
     let s = c.args.self.now in
     let t = c.args.site.now.terms in
     let sa = g.C.Spectrum.ordinate c.args.spectrum.now in
-    let fs = floors_of_loads c.loads-of.result in
-    let o = c.in-ok-outcome.outcome in
-    let h = gives s t sa fs c.loads-of.ensures.floors o c.in-ok-outcome.ensures in
-    let v = answer s t sa fs c.loads-of.ensures.floors (Ok o) c.in-ok-outcome.ensures in
+    let fs = floors_of_loads c.loads_of.result in
+    let o = c.in_ok-outcome.outcome in
+    let h = gives s t sa fs c.loads_of.ensures.floors o c.in_ok-outcome.ensures in
+    let v = answer s t sa fs c.loads_of.ensures.floors (Ok o) c.in_ok-outcome.ensures in
     let shears = static_shears_of t sa (counted (floors_in s)) in
     ran_to s _ (static t sa) shears shears o (sym v.0) refl refl (ap is_run c.after.ensures) refl refl refl h (λ i. ap (λ (n : ℕ). shown n shears shears i) (sym s.held))

@@ -4,8 +4,13 @@ use Rattle.spectra.specs.Spectra.{good_from, last_upper}
 use Rattle.spectra.specs.CurvesLemmas.{accepted}
 use Rattle.spectra.proofs.curve.SiteCurve.fill.Goals as goal
 
-pub invariant-of-self : goal.invariant-of-self
-invariant-of-self c =
-    let a = accepted c.args.steps.now (sym c.in-ok-judge-steps.ensures) in
+pub invariant_of-self : goal.invariant_of-self
+invariant_of-self c =
+    let a = accepted c.args.steps.now (sym c.in_ok-judge_steps.ensures) in
     let e = sym c.copied.ensures in
-    (a.some, (a.few, (subst (λ (ss : List Step). good_from 0 ss ≡ true) e a.good, (subst (λ (ss : List Step). last_upper 0 ss ≡ 4000) e a.whole, tt))))
+    record {
+      some = a.some;
+      few = a.few;
+      good = subst (λ (ss : List Step). good_from 0 ss ≡ true) e a.good;
+      whole = subst (λ (ss : List Step). last_upper 0 ss ≡ 4000) e a.whole;
+    }
