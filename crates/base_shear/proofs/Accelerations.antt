@@ -1,9 +1,6 @@
 -- The laws of the acceleration. Assumes nothing.
-use Rattle.std.proofs.Common.{◌≡◌, ℕ, ◌*◌, ◌<◌, ◌≤◌, Bool, true, false, cond, ◌&&◌, ltb, leb, ◌⊎◌, sym, refl, ap, ◌∙◌, subst, inl, inr, mul-le-mul, mul-le-mul_left, arith}
+use Rattle.std.proofs.Common.{◌≡◌, ℕ, ◌*◌, ◌<◌, ◌≤◌, true, false, ◌&&◌, leb, ◌⊎◌, ap, ◌∙◌, inl, inr, mul-le-mul, mul-le-mul_left, arith}
 use Rattle.std.proofs.lemmas.Bool.{cases_Bool, cond-true, cond-false, cond_both, le-leb, lt-leb, le-ltb, and_from, and_left, and_right}
-use Rattle.std.proofs.lemmas.Bool.Decides.{nat_tests}
-use Rattle.rounding.specs.Rounding.{nearest}
-use Rattle.rounding.proofs.Rounding.{rising, whole}
 use Rattle.standard.specs.declared.fraction.Fraction.{Fraction}
 use Rattle.standard.specs.declared.terms.SiteTerms.{SiteTerms}
 use Rattle.standard.specs.declared.terms.Zone.{Zone}
@@ -13,7 +10,7 @@ use Rattle.standard.specs.declared.terms.Importance.TheVariants.{Ordinary, Impor
 use Rattle.standard.specs.declared.terms.System.{System}
 use Rattle.standard.specs.declared.terms.System.TheVariants.{OrdinaryConcreteFrame, SpecialConcreteFrame, ConcentricBraces, EccentricBraces, PlainMasonry, BandedMasonry, BarredMasonry, OrdinaryWall, DuctileWall, OrdinaryWallOrdinaryFrame, OrdinaryWallSpecialFrame, DuctileWallOrdinaryFrame, DuctileWallSpecialFrame}
 use Rattle.base_shear.specs.Accelerations.{reduced, least_acceleration_of, acceleration_of, Acceleration, AccelerationLaw}
-use Rattle.standard.specs.Fractions.{fraction, less}
+use Rattle.standard.specs.Fractions.{less}
 use Rattle.standard.specs.Sites.{zone_number, importance_value, reduction}
 use Rattle.spectra.specs.Spectra.{Ordinate, SpectrumLaw}
 

@@ -1,10 +1,9 @@
 -- The laws of periods. Assumes nothing.
-use Rattle.std.proofs.Common.{◌≡◌, ℕ, ◌+◌, ◌-◌, ◌*◌, ◌/◌, ◌^◌, ◌<◌, ◌≤◌, Bool, true, false, ltb, leb, ◌⊎◌, sym, refl, ap, ◌∙◌, subst, inl, inr, le_trans, mul-le-mul_right, mul-le-mul, div-mul-le_self, arith}
+use Rattle.std.proofs.Common.{◌≡◌, ℕ, ◌+◌, ◌-◌, ◌*◌, ◌/◌, ◌^◌, ◌<◌, ◌≤◌, true, false, leb, sym, refl, ap, subst, inl, inr, le_trans, mul-le-mul_right, mul-le-mul, div-mul-le_self, arith}
 use native.Mathlib.Nat.{pow-le-pow_left, pow-le-pow_right, lt-div-mul-add}
 use Rattle.std.proofs.lemmas.Bool.{ltb-true, lt-ltb, le-ltb, cases_lt, cases_eq, both_ways, leb-true, and_parts}
-use Rattle.rounding.proofs.Order.{sq_mono, sq_lt}
+use Rattle.rounding.proofs.Order.{sq_mono}
 use Rattle.rounding.proofs.Semiring.{◌⊠◌, ◌⇑◌, semiring₁}
-use Rattle.rounding.specs.Least.{Least}
 use Rattle.rounding.proofs.Least.{smallest_least, least_only}
 use Rattle.standard.specs.declared.terms.Formula.{Formula}
 use Rattle.standard.specs.declared.terms.Formula.TheVariants.{ConcreteFrame, SteelFrame, Other}

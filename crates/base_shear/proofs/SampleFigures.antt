@@ -1,5 +1,5 @@
 -- The worked figures. Assumes nothing.
-use Rattle.std.proofs.Common.{◌≡◌, ℕ, ◌+◌, ◌*◌, sym, refl, ap, ◌∙◌, lit<}
+use Rattle.std.proofs.Common.{◌≡◌, ℕ, ◌+◌, ◌*◌, sym, refl, ap, lit<}
 use Rattle.rounding.specs.Rounding.{nearest}
 use Rattle.standard.specs.declared.terms.Formula.TheVariants.{ConcreteFrame, Other}
 use Rattle.standard.specs.declared.terms.Soil.TheVariants.{Medium}

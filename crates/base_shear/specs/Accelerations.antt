@@ -1,5 +1,5 @@
 -- The horizontal acceleration as a fraction of gravity, and the code base shear.
-use Rattle.std.specs.Prelude.{◌≡◌, ℕ, ◌*◌, ◌≤◌, Bool, false, cond, ◌&&◌, List, [], ◌∷◌, nat_le, nat_lt}
+use Rattle.std.specs.Prelude.{◌≡◌, ℕ, ◌*◌, ◌≤◌, false, cond, ◌&&◌, List, [], ◌∷◌, nat_le, nat_lt}
 use Rattle.rounding.specs.Rounding.{nearest}
 use Rattle.standard.specs.declared.fault.Ground.TheVariants.{PeriodTooLong}
 use Rattle.standard.specs.declared.fraction.Fraction.{Fraction}

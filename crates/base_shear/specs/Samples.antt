@@ -1,7 +1,5 @@
 -- Worked figures that the definitions give.
-use Rattle.std.specs.Prelude.{◌≡◌, ℕ, ◌+◌}
-use Rattle.standard.specs.declared.fraction.Fraction.{Fraction}
-use Rattle.standard.specs.declared.terms.Formula.{Formula}
+use Rattle.std.specs.Prelude.{◌≡◌, ◌+◌}
 use Rattle.standard.specs.declared.terms.Formula.TheVariants.{ConcreteFrame, Other}
 use Rattle.standard.specs.declared.terms.Importance.TheVariants.{Ordinary}
 use Rattle.standard.specs.declared.terms.Plan.TheVariants.{Regular}

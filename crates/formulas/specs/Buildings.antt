@@ -1,5 +1,5 @@
 -- A building as lists, bottom first. Storey i, from 1, is the one below floor i; what it carries is what stands from i on.
-use Rattle.std.specs.Prelude.{ℕ, ◌-◌, ◌≤◌, List, [], ◌∷◌, drop, ℤ}
+use Rattle.std.specs.Prelude.{ℕ, ◌-◌, ◌≤◌, List, drop, ℤ}
 use Rattle.rounding.specs.Sums.{sum_n}
 use Rattle.std.specs.List.{AllByRecursion}
 use Rattle.formulas.specs.declared.floor.Floor.{Floor}

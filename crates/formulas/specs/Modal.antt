@@ -1,5 +1,5 @@
 -- The modal method.
-use Rattle.std.specs.Prelude.{ℕ, ◌*◌, ◌≤◌, cond, List, [], ◌∷◌, map, length, ℤ, pos, ◌*ℤ◌, nat_lt, unsigned_abs}
+use Rattle.std.specs.Prelude.{ℕ, ◌*◌, cond, List, [], ◌∷◌, map, ℤ, pos, ◌*ℤ◌, nat_lt, unsigned_abs}
 use Rattle.rounding.specs.Rounding.{nearest, nearestℤ}
 use Rattle.rounding.specs.Roots.{root}
 use Rattle.rounding.specs.Sums.{sum_n, first, second_n}

@@ -1,5 +1,5 @@
 -- The static method.
-use Rattle.std.specs.Prelude.{◌≡◌, ℕ, ◌*◌, ◌<◌, List}
+use Rattle.std.specs.Prelude.{ℕ, ◌*◌, ◌<◌, List}
 use Rattle.rounding.specs.Rounding.{nearest, gap}
 use Rattle.rounding.specs.Sums.{sum_n}
 use Rattle.standard.specs.declared.fraction.Fraction.{Fraction}

@@ -1,5 +1,5 @@
 -- What is proved of the formulas.
-use Rattle.std.specs.Prelude.{◌≡◌, ℕ, ◌+◌, ◌*◌, ◌<◌, ◌≤◌, List, length, ℤ, pos, ◌*ℤ◌, unsigned_abs}
+use Rattle.std.specs.Prelude.{◌≡◌, ℕ, ◌*◌, ◌<◌, ◌≤◌, List, length, ℤ, pos, ◌*ℤ◌, unsigned_abs}
 use Rattle.rounding.specs.Rounding.{nearest}
 use Rattle.rounding.specs.Roots.{root}
 use Rattle.std.specs.List.{AllByRecursion}
@@ -9,10 +9,10 @@ use Rattle.combination.specs.declared.response.Response.{Response}
 use Rattle.combination.specs.Values.{total, most}
 use Rattle.combination.specs.Laws.{Laws}
 use Rattle.formulas.specs.declared.floor.Floor.{Floor}
-use Rattle.formulas.specs.Buildings.{Mode, Built, W, heaviest, up_from}
+use Rattle.formulas.specs.Buildings.{Mode, Built, W, heaviest}
 use Rattle.formulas.specs.Static.{S, static_shear, StaticNear}
 use Rattle.formulas.specs.Forces.{force_of, forces_up_to}
-use Rattle.formulas.specs.Modal.{L, M, modal_weight_of, modal_shear_of, storey_values_of, modal_weights, design_shear}
+use Rattle.formulas.specs.Modal.{L, M, modal_weight_of, modal_shear_of, storey_values_of, design_shear}
 use Rattle.formulas.specs.Exact.{CombinedNear, DesignNear}
 
 -- at the base shear b, the nearest to a × W

@@ -1,12 +1,12 @@
 -- What the ranges of floors say of their sums. Assumes nothing.
-use Rattle.std.proofs.Common.{◌≡◌, ℕ, zero, suc, ◌+◌, ◌-◌, ◌*◌, ◌<◌, ◌≤◌, Bool, true, false, ◌&&◌, leb, List, [], ◌∷◌, length, get_or, take, drop, sym, refl, ap, ◌∙◌, subst, le_refl, not-suc-le-zero, mul-le-mul, mul-le-mul_left, arith, get_or-take}
-use Rattle.std.proofs.lemmas.List.{at_drop_more, at_drop_all}
+use Rattle.std.proofs.Common.{◌≡◌, ℕ, zero, suc, ◌+◌, ◌*◌, ◌<◌, ◌≤◌, true, leb, List, [], ◌∷◌, length, get_or, take, drop, ap, ◌∙◌, subst, le_refl, not-suc-le-zero, mul-le-mul, mul-le-mul_left, arith, get_or-take}
+use Rattle.std.proofs.lemmas.List.{at_drop_more}
 use Rattle.std.proofs.lemmas.Bool.{and_parts, leb-true}
 use Rattle.standard.specs.Sites.{within}
 use Rattle.formulas.specs.declared.floor.Floor.{Floor}
 use Rattle.formulas.specs.Buildings.{Built, W}
 use Rattle.formulas.specs.Static.{S}
-use Rattle.methods.specs.Loads.{every, in_range, nothing, height_at, roof_of}
+use Rattle.methods.specs.Loads.{every, in_range, nothing}
 use Rattle.methods.proofs.Lists.{every_at}
 
 pub record Ranged (f : Floor) : Type 0 where

@@ -1,5 +1,5 @@
 -- What a mode that can be used says of its sums. Assumes nothing.
-use Rattle.std.proofs.Common.{◌≡◌, ℕ, zero, suc, ◌+◌, ◌-◌, ◌*◌, ◌<◌, ◌≤◌, Bool, true, false, not, eqb, leb, List, [], ◌∷◌, length, get_or, take, drop, ℤ, pos, ◌+ℤ◌, ◌*ℤ◌, nat_abs, refl, ap, ◌∙◌, subst, inl, inr, le_refl, not-suc-le-zero, mul-le-mul, mul-le-mul_left, arith}
+use Rattle.std.proofs.Common.{◌≡◌, ℕ, zero, suc, ◌+◌, ◌*◌, ◌<◌, ◌≤◌, Bool, true, false, not, eqb, leb, List, [], ◌∷◌, length, get_or, take, drop, ℤ, pos, ◌+ℤ◌, ◌*ℤ◌, nat_abs, refl, ap, ◌∙◌, subst, inl, inr, le_refl, not-suc-le-zero, mul-le-mul, mul-le-mul_left, arith}
 use Rattle.std.proofs.lemmas.List.{drop_more, get_or-take}
 use Rattle.std.proofs.lemmas.Bool.{and_parts, and_cases, leb-true, eqb-true, eqb-false, ltb-false, not-true}
 use Rattle.rounding.specs.Sums.{first, second_n}

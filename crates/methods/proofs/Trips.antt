@@ -1,5 +1,5 @@
 -- Signed sums and products freed of their trips through bits. Assumes nothing.
-use Rattle.std.proofs.Common.{◌≡◌, ℕ, ◌*◌, ◌^◌, ◌<◌, ◌≤◌, ℤ, pos, ◌+ℤ◌, ◌*ℤ◌, nat_abs, sym, refl, subst, arith, w16, w32, w64, SFits, to_z}
+use Rattle.std.proofs.Common.{◌≡◌, ℕ, ◌^◌, ◌<◌, ◌≤◌, ℤ, pos, ◌+ℤ◌, ◌*ℤ◌, nat_abs, sym, refl, subst, arith, w16, w32, w64, SFits, to_z}
 use borrow.Author.Differences.{ints}
 use Rattle.std.proofs.lemmas.Int.{to_z_pos}
 use Rattle.rounding.proofs.Order.{back, read_back, fits_of, nat_abs_mul_le}

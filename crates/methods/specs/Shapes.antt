@@ -1,5 +1,5 @@
 -- Modes as the methods see them.
-use Rattle.std.specs.Prelude.{ℕ, Bool, true, false, not, ◌&&◌, List, [], ◌∷◌, map, length, take, ℤ, ◌==◌, nat_eq, nat_lt, unsigned_abs}
+use Rattle.std.specs.Prelude.{ℕ, Bool, true, not, ◌&&◌, List, [], ◌∷◌, map, length, take, ℤ, ◌==◌, nat_eq, nat_lt, unsigned_abs}
 use Rattle.standard.specs.Sites.{within}
 use Rattle.formulas.specs.Buildings.{Mode}
 use Rattle.methods.specs.declared.modes.ModeRow.{ModeRow}

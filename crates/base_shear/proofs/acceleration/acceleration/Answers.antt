@@ -1,4 +1,4 @@
-use Rattle.std.proofs.Common.{◌≡◌, ℕ, ◌≤◌, Bool, true, false, ◌⊎◌, sym, ap, ◌∙◌, subst, inl, inr}
+use Rattle.std.proofs.Common.{◌≡◌, ℕ, ◌≤◌, Bool, true, false, sym, ap, ◌∙◌, subst, inl, inr}
 use Rattle.standard.specs.declared.fraction.Fraction.{Fraction}
 use Rattle.standard.specs.declared.terms.SiteTerms.{SiteTerms}
 use Rattle.base_shear.specs.Accelerations.{acceleration_of, Acceleration, reduced, least_acceleration_of}

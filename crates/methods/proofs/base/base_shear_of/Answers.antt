@@ -1,9 +1,8 @@
-use Rattle.std.proofs.Common.{◌≡◌, ℕ, ◌≤◌, Ok, sym, ap, ◌∙◌, subst, arith}
+use Rattle.std.proofs.Common.{◌≡◌, ℕ, ◌≤◌, Ok, ◌∙◌, subst, arith}
 use Rattle.standard.specs.Faults.{verdict}
 use Rattle.base_shear.specs.Accelerations.{code_base_shear_of, period_refusals}
 use Rattle.formulas.specs.Buildings.{W, heaviest}
 use Rattle.methods.specs.Loads.{roof_of}
-use Rattle.methods.specs.Outcomes.{code_shear}
 use Rattle.methods.specs.Views.{floors_of_loads}
 use Rattle.methods.proofs.BaseShears.{base_within}
 use Rattle.methods.proofs.base.base_shear_of.Goals as goal

@@ -1,6 +1,6 @@
-use Rattle.std.proofs.Common.{◌≡◌, ℕ, ◌-◌, ◌<◌, length, get_or, take, sym, ap, ◌∙◌, arith}
+use Rattle.std.proofs.Common.{ℕ, ◌-◌, take, sym, ap, ◌∙◌, arith}
 use Rattle.formulas.specs.declared.floor.Floor.{Floor}
-use Rattle.methods.specs.Loads.{height_at, nothing}
+use Rattle.methods.specs.Loads.{height_at}
 use Rattle.methods.proofs.LoadFacts.{held_ranged, held_at}
 use Rattle.methods.proofs.base.roof_height.Goals as goal
 

@@ -62,5 +62,5 @@ returns g c =
 pub returns-in_err-code : goal.returns-in_err-code
 returns-in_err-code g c =
     let l = c.args.shapes.now.loads in
-    let p = err_from_is_err_and c.from-residual.result c.from-residual.ensures.1 in
+    let p = err_from_is_err_and c.from_residual.result c.from_residual.ensures.1 in
     rw (p.1, p.2) (too_long c.args.site.now.terms (g.C.Spectrum.ordinate c.args.spectrum.now) (g.R.Rule.squared c.args.rule.now) (modes_in c.args.shapes.now) (floors_of_loads l) (omega (arith, l.held, l.some)) c.in_err-code.field-0.0 c.in_err-code.ensures)

@@ -1,7 +1,6 @@
-use Rattle.std.proofs.Common.{◌≡◌, ℕ, ◌+◌, ◌*◌, ◌≤◌, length, take, drop, sym, ap, ◌∙◌, arith}
+use Rattle.std.proofs.Common.{◌≡◌, drop, arith}
 use Rattle.std.proofs.lemmas.List.{at_drop_all}
 use Rattle.formulas.specs.Static.{S}
-use Rattle.methods.specs.Loads.{nothing}
 use Rattle.methods.specs.Views.{floors_of_loads}
 use Rattle.methods.proofs.LoadFacts.{moment_more, moment_size}
 use Rattle.methods.proofs.statics.moment_of.Goals as goal

@@ -1,4 +1,4 @@
-use Rattle.std.proofs.Common.{◌≡◌, ℕ, ◌+◌, ◌<◌, ◌≤◌, length, sym, ap, ◌∙◌, subst, arith}
+use Rattle.std.proofs.Common.{◌+◌, arith}
 use Rattle.formulas.proofs.Static.{static_size}
 use Rattle.methods.specs.Views.{floors_of_loads}
 use Rattle.methods.proofs.LoadFacts.{built}

@@ -1,9 +1,8 @@
-use Rattle.std.proofs.Common.{◌≡◌, ℕ, ◌+◌, ◌-◌, ◌*◌, ◌^◌, ◌≤◌, List, length, take, drop, sym, ap, ◌∙◌, mul-le-mul, arith, rules}
+use Rattle.std.proofs.Common.{◌≡◌, ℕ, ◌+◌, ◌-◌, ◌*◌, ◌≤◌, List, drop, ap, ◌∙◌, mul-le-mul, arith}
 use Rattle.std.proofs.lemmas.List.{length-set}
 use Rattle.formulas.specs.declared.floor.Floor.{Floor}
 use Rattle.formulas.specs.Static.{S, static_shear}
 use Rattle.rounding.specs.Rounding.{nearest}
-use Rattle.methods.specs.Loads.{nothing}
 use Rattle.methods.specs.Views.{floors_of_loads}
 use Rattle.methods.proofs.Lists.{fill_with_more}
 use Rattle.methods.proofs.LoadFacts.{moment_more, moment_size, moment_some, sum_split}

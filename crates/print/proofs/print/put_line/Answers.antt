@@ -5,7 +5,7 @@ use Rattle.print.proofs.Lines.{length_line}
 use Rattle.print.proofs.Pieces.{and_then}
 use Rattle.print.proofs.print.put_line.Goals as goal
 
-pub put_number-at-requires : goal.put_number_at-requires
+pub put_number-at-requires : goal.put_number-at-requires
 put_number-at-requires c =
     let s = c.args.storeys.now in
     let i = c.args.i in
@@ -17,7 +17,7 @@ put-at-requires c =
     let i = c.args.i in
     omega (arith, length_line (i + 1) (get_or s.design i 0) (get_or s.forces i (pos 0)))
 
-pub put_number-at-requires-2 : goal.put_number_at-requires-2
+pub put_number-at-requires-2 : goal.put_number-at-requires-2
 put_number-at-requires-2 c =
     let s = c.args.storeys.now in
     let i = c.args.i in
@@ -52,9 +52,9 @@ returns c =
     let fits : SFits w64 (get_or s.forces i (pos 0)) = search rules in
     let last = simp (to_z-of_z w64 (get_or s.forces i (pos 0)) fits) at c.put_signed-at.ensures in
     let long = length_line (i + 1) (get_or s.design i 0) (get_or s.forces i (pos 0)) in
-    and_then c.put_number_at.ensures
+    and_then c.put_number-at.ensures
     (and_then c.put-at.ensures
-    (and_then c.put_number_at-2.ensures
+    (and_then c.put_number-at-2.ensures
     (and_then c.put-at-2.ensures
     (and_then last c.put.ensures (omega arith))
     (omega arith)) (omega arith)) (omega arith)) (omega arith)

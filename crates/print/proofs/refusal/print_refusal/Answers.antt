@@ -18,36 +18,36 @@ place_short n h = length-decimal-le 10 n (omega arith) (omega arith) (omega arit
 length_refusal : (position number place : ℕ) → length (refusal_text position number place) ≡ length (decimal position) + length (decimal number) + length (decimal place) + 11
 length_refusal position number place = simp length-append (omega arith)
 
-pub put_number-at-requires : goal.put_number_at-requires
+pub put_number-at-requires : goal.put_number-at-requires
 put_number-at-requires c = omega (arith, position_short c.args.position (search rules))
 
 pub put-at-requires-2 : goal.put-at-requires-2
 put-at-requires-2 c = omega (arith, position_short c.args.position (search rules))
 
-pub put_number-at-requires-2 : goal.put_number_at-requires-2
-put_number-at-requires-2 c = omega (arith, position_short c.args.position (search rules), number_short c.number.result c.number.type-inv)
+pub put_number-at-requires-2 : goal.put_number-at-requires-2
+put_number-at-requires-2 c = omega (arith, position_short c.args.position (search rules), number_short c.number.result c.number.type_inv)
 
 pub put-at-requires-3 : goal.put-at-requires-3
-put-at-requires-3 c = omega (arith, position_short c.args.position (search rules), number_short c.number.result c.number.type-inv)
+put-at-requires-3 c = omega (arith, position_short c.args.position (search rules), number_short c.number.result c.number.type_inv)
 
-pub put_number-at-requires-3 : goal.put_number_at-requires-3
-put_number-at-requires-3 c = omega (arith, position_short c.args.position (search rules), number_short c.number.result c.number.type-inv, place_short c.args.fault.now.place (search rules))
+pub put_number-at-requires-3 : goal.put_number-at-requires-3
+put_number-at-requires-3 c = omega (arith, position_short c.args.position (search rules), number_short c.number.result c.number.type_inv, place_short c.args.fault.now.place (search rules))
 
 pub put-requires : goal.put-requires
-put-requires c = omega (arith, position_short c.args.position (search rules), number_short c.number.result c.number.type-inv, place_short c.args.fault.now.place (search rules))
+put-requires c = omega (arith, position_short c.args.position (search rules), number_short c.number.result c.number.type_inv, place_short c.args.fault.now.place (search rules))
 
 pub returns : goal.returns
 returns c =
     let a = position_short c.args.position (search rules) in
-    let b = number_short c.number.result c.number.type-inv in
+    let b = number_short c.number.result c.number.type_inv in
     let d = place_short c.args.fault.now.place (search rules) in
     let all : Wrote c.args.line.now 0 (refusal_text c.args.position c.number.result c.args.fault.now.place) c.put.new.out c.put.result =
     and_then c.put-at.ensures
-    (and_then c.put_number_at.ensures
+    (and_then c.put_number-at.ensures
     (and_then c.put-at-2.ensures
-    (and_then c.put_number_at-2.ensures
+    (and_then c.put_number-at-2.ensures
     (and_then c.put-at-3.ensures
-    (and_then c.put_number_at-3.ensures c.put.ensures
+    (and_then c.put_number-at-3.ensures c.put.ensures
     (omega arith)) (omega arith)) (omega arith)) (omega arith)) (omega arith)) (omega arith)
     in
     subst (λ (n : ℕ). Printed (refusal_text c.args.position n c.args.fault.now.place) c.args.line.now c.put.new.out c.put.result) c.number.ensures

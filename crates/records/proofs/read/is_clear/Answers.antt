@@ -1,4 +1,4 @@
-use Rattle.std.proofs.Common.{◌≡◌, not, get_or, ap, ◌∙◌, arith}
+use Rattle.std.proofs.Common.{not, get_or, ap, ◌∙◌, arith}
 use Rattle.std.proofs.lemmas.List.{at_drop_more, at_drop_all}
 use Rattle.std.proofs.lemmas.Bool.{eq-eqb, eqb-true, cond-false}
 use Rattle.standard.specs.Faults.{verdict}
@@ -7,7 +7,7 @@ use Rattle.records.proofs.read.is_clear.Goals as goal
 
 pub loop-place-preserved : goal.loop-place-preserved
 loop-place-preserved c = (
-  omega (arith, c.type-inv.bytes c.loop-place.place, c.loop-place.invariant.0),
+  omega (arith, c.type_inv.bytes c.loop-place.place, c.loop-place.invariant.0),
   λ e.
       c.loop-place.invariant.1 (omega arith)
       ∙ at_drop_more (λ bs. verdict (unused_refusals c.loop-place.place bs)) c.args.bytes.now c.loop-place.place 0 (omega arith)

@@ -1,4 +1,4 @@
-use Rattle.std.proofs.Common.{◌≡◌, ◌+◌, ◌*◌, ◌≤◌, drop}
+use Rattle.std.proofs.Common.{◌≡◌, ◌*◌, ◌≤◌, drop}
 use Rattle.standard.specs.Faults.{verdict}
 use Rattle.records.specs.Rows.{unused_refusals}
 use Rattle.records.proofs.read.is_clear.Given as goal

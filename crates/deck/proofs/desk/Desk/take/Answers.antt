@@ -6,9 +6,9 @@ use Rattle.deck.proofs.desk.Desk.take.Goals as goal
 
 pub returns-in_err-record : goal.returns-in_err-record
 returns-in_err-record c =
-    let p = err_from_is_err_and c.from-residual.result c.from-residual.ensures.1 in
-    let h = unread_takes c.args.self.now (record_of c.args.bytes.now) p.0 c.from-residual.result (ap Err p.2 ∙ c.in_err-record.ensures.row) p.1 in
-    record { takes = h; carries = carries_on _ _ c.args.bytes.now c.from-residual.result h }
+    let p = err_from_is_err_and c.from_residual.result c.from_residual.ensures.1 in
+    let h = unread_takes c.args.self.now (record_of c.args.bytes.now) p.0 c.from_residual.result (ap Err p.2 ∙ c.in_err-record.ensures.row) p.1 in
+    record { takes = h; carries = carries_on _ _ c.args.bytes.now c.from_residual.result h }
 
 pub returns : goal.returns
 returns c =

@@ -21,9 +21,9 @@ judged s roof h w e = λ i. verdict (floor_grounds (sym s.held i) (e i) (s.summe
 
 pub returns-in_err-judge_floor : goal.returns-in_err-judge_floor
 returns-in_err-judge_floor c =
-    let p = err_from_is_err_and c.from-residual.result c.from-residual.ensures.1 in
+    let p = err_from_is_err_and c.from_residual.result c.from_residual.ensures.1 in
     let v = c.in_err-judge_floor.ensures ∙ judged c.args.self.now c.roof.result c.args.height c.args.weight c.roof.ensures in
-    refused c.args.self.now (floor c.args.height c.args.weight) c.from-residual.result p.0 p.1 (ap Err p.2 ∙ v)
+    refused c.args.self.now (floor c.args.height c.args.weight) c.from_residual.result p.0 p.1 (ap Err p.2 ∙ v)
 
 pub invariant_of-self : goal.invariant_of-self
 invariant_of-self c =

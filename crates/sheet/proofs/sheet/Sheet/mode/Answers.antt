@@ -56,9 +56,9 @@ pub returns-in_err-judge_mode : goal.returns-in_err-judge_mode
 returns-in_err-judge_mode c =
     let s = c.args.self.now in
     let m = c.args.shape.now in
-    let p = err_from_is_err_and c.from-residual.result c.from-residual.ensures.1 in
+    let p = err_from_is_err_and c.from_residual.result c.from_residual.ensures.1 in
     let v = c.in_err-judge_mode.ensures ∙ judged s m c.reaches_down_to-reached.result c.first_outside-outside.result c.is_all_zero-zeros.result c.reaches_down_to-reached.ensures c.first_outside-outside.ensures c.is_all_zero-zeros.ensures in
-    refused s (mode m.period m.count (typed m)) c.from-residual.result p.0 p.1 (ap Err p.2 ∙ v)
+    refused s (mode m.period m.count (typed m)) c.from_residual.result p.0 p.1 (ap Err p.2 ∙ v)
 
 pub invariant_of-self : goal.invariant_of-self
 invariant_of-self c =

@@ -28,9 +28,9 @@ overflow_sub-self c = let s = c.args.self.now in omega (arith, c.weight-old.ensu
 pub returns-in_err-judge_reweigh : goal.returns-in_err-judge_reweigh
 returns-in_err-judge_reweigh c =
     let s = c.args.self.now in
-    let p = err_from_is_err_and c.from-residual.result c.from-residual.ensures.1 in
+    let p = err_from_is_err_and c.from_residual.result c.from_residual.ensures.1 in
     let v = c.in_err-judge_reweigh.ensures ∙ judged s c.saturating_sub-place.result c.weight-old.result c.args.floor c.args.weight c.saturating_sub-place.ensures c.weight-old.ensures in
-    refused s (reweigh c.args.floor c.args.weight) c.from-residual.result p.0 p.1 (ap Err p.2 ∙ v)
+    refused s (reweigh c.args.floor c.args.weight) c.from_residual.result p.0 p.1 (ap Err p.2 ∙ v)
 
 pub set_weight-requires : goal.set_weight-requires
 set_weight-requires c =

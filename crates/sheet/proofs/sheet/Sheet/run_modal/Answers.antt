@@ -49,9 +49,9 @@ returns-in_err-outcome g c =
     let t = c.args.site.now.terms in
     let sa = g.C.Spectrum.ordinate c.args.spectrum.now in
     let q = g.R.Rule.squared c.args.rule.now in
-    let p = err_from_is_err_and c.from-residual.result c.from-residual.ensures.1 in
+    let p = err_from_is_err_and c.from_residual.result c.from_residual.ensures.1 in
     let v = answer s t sa q (floors_seen c.shapes_of.result) (modes_seen c.shapes_of.result) c.shapes_of.ensures.floors c.shapes_of.ensures.modes (Err c.in_err-outcome.field-0.0) c.in_err-outcome.ensures in
-    refused s (modal t sa q) c.from-residual.result p.0 p.1 (ap Err p.2 ∙ sym v)
+    refused s (modal t sa q) c.from_residual.result p.0 p.1 (ap Err p.2 ∙ sym v)
 
 pub invariant_of-self : goal.invariant_of-self
 invariant_of-self g c =

@@ -45,9 +45,9 @@ returns-in_err-outcome g c =
     let s = c.args.self.now in
     let t = c.args.site.now.terms in
     let sa = g.C.Spectrum.ordinate c.args.spectrum.now in
-    let p = err_from_is_err_and c.from-residual.result c.from-residual.ensures.1 in
+    let p = err_from_is_err_and c.from_residual.result c.from_residual.ensures.1 in
     let v = answer s t sa (floors_of_loads c.loads_of.result) c.loads_of.ensures.floors (Err c.in_err-outcome.field-0.0) c.in_err-outcome.ensures in
-    refused s (static t sa) c.from-residual.result p.0 p.1 (ap Err p.2 ∙ sym v)
+    refused s (static t sa) c.from_residual.result p.0 p.1 (ap Err p.2 ∙ sym v)
 
 pub invariant_of-self : goal.invariant_of-self
 invariant_of-self g c =

@@ -31,8 +31,8 @@ without_length xs k l = omega (arith, length-append (take k xs) (drop (suc k) xs
 pub returns-in_err-judge_strike : goal.returns-in_err-judge_strike
 returns-in_err-judge_strike c =
     let s = c.args.self.now in
-    let p = err_from_is_err_and c.from-residual.result c.from-residual.ensures.1 in
-    refused s (strike c.args.mode) c.from-residual.result p.0 p.1 (ap Err p.2 ∙ c.in_err-judge_strike.ensures ∙ judged s c.args.mode)
+    let p = err_from_is_err_and c.from_residual.result c.from_residual.ensures.1 in
+    refused s (strike c.args.mode) c.from_residual.result p.0 p.1 (ap Err p.2 ∙ c.in_err-judge_strike.ensures ∙ judged s c.args.mode)
 
 pub invariant_of-self : goal.invariant_of-self
 invariant_of-self c =
