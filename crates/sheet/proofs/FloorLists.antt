@@ -1,5 +1,5 @@
 -- What calls make of a list of floors. Assumes nothing.
-use Rattle.std.proofs.Common.{◌≡◌, ℕ, zero, suc, ◌+◌, ◌-◌, ◌<◌, ◌≤◌, Bool, true, false, ◌&&◌, ltb, leb, ◌⊎◌, List, [], ◌∷◌, ◌++◌, length, get_or, set, sym, refl, ap, ◌∙◌, subst, inl, inr, le_of_suc-le-suc, not-suc-le-zero, arith}
+use Rattle.std.proofs.Common.{◌≡◌, ℕ, zero, suc, ◌+◌, ◌-◌, ◌<◌, ◌≤◌, true, ◌&&◌, ltb, List, [], ◌∷◌, length, set, sym, refl, ap, subst, inl, inr, le_of_suc-le-suc, not-suc-le-zero, arith}
 use Rattle.std.proofs.lemmas.List.{length_push, length-set, get_or_past}
 use Rattle.std.proofs.lemmas.Bool.{and_parts, and_from, lt-ltb, ltb-true, cases_lt}
 use Rattle.standard.specs.Sites.{within}
@@ -7,7 +7,6 @@ use Rattle.formulas.specs.declared.floor.Floor.{Floor}
 use Rattle.formulas.specs.Buildings.{W}
 use Rattle.methods.specs.Loads.{every, in_range, nothing, height_at, roof_of}
 use Rattle.methods.proofs.Lists.{every_at, every_append, every_set}
-use Rattle.methods.proofs.LoadFacts.{ranged}
 use Rattle.sheet.specs.Floors.{rises_from, weight_at, grown, reweighed}
 use Rattle.sheet.proofs.Sums.{sum_n_push, sum_n_set, at_most_sum_n}
 

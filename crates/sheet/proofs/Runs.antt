@@ -1,18 +1,17 @@
 -- What a run leaves reads as its method gives it. Assumes nothing.
-use Rattle.std.proofs.Common.{◌≡◌, ℕ, ◌+◌, ◌-◌, ◌<◌, ◌≤◌, Bool, true, false, cond, ◌&&◌, ltb, leb, ◌⊎◌, List, length, get_or, ℤ, pos, ◌-ℤ◌, Some, None, Ok, Err, sym, refl, ap, ◌∙◌, subst, inl, inr, arith}
-use Rattle.std.proofs.lemmas.Bool.{and_parts, leb-true, cases_Bool, cond-true, cond-false, ltb-true, false≢true}
-use Rattle.standard.specs.Faults.{Verdict, verdict}
+use Rattle.std.proofs.Common.{◌≡◌, ℕ, ◌+◌, ◌-◌, ◌≤◌, true, cond, ◌&&◌, ltb, leb, get_or, ℤ, pos, ◌-ℤ◌, Some, None, Ok, sym, ap, ◌∙◌, inl, inr, arith}
+use Rattle.std.proofs.lemmas.Bool.{and_parts, leb-true, cases_Bool, cond-false, ltb-true, false≢true}
+use Rattle.standard.specs.Faults.{verdict}
 use Rattle.standard.specs.Sites.{within}
 use Rattle.formulas.specs.Forces.{force_of}
 use Rattle.methods.specs.declared.outcome.Outcome.{Outcome}
-use Rattle.methods.specs.Outcomes.{Gives, Differences, stored}
+use Rattle.methods.specs.Outcomes.{Gives, stored}
 use Rattle.sheet.specs.declared.sheet.Sheet.{Sheet}
-use Rattle.sheet.specs.declared.stage.Stage.{Stage}
 use Rattle.sheet.specs.Answers.{Answers}
-use Rattle.sheet.specs.Contents.{Reading, floors_in, modes_in, reading_of}
+use Rattle.sheet.specs.Contents.{floors_in, modes_in, reading_of}
 use Rattle.sheet.specs.Ledgers.{Asked, refusals, floors_after, modes_after}
 use Rattle.sheet.specs.Readings.{shown, read_after}
-use Rattle.sheet.specs.Stages.{is_run, Forced}
+use Rattle.sheet.specs.Stages.{is_run}
 
 module _ (n : ℕ) (c d : ℕ → ℕ) (o : Outcome) (gives : Gives n c d o) (i : ℕ) (low : 1 ≤ i) (high : i ≤ n) where
   at : i - 1 + 1 ≡ i

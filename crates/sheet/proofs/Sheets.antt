@@ -1,11 +1,10 @@
 -- What is common to the calls on a sheet. Assumes nothing.
-use Rattle.std.proofs.Common.{◌≡◌, ℕ, ◌-◌, Bool, true, false, cond, ◌&&◌, List, [], ◌∷◌, map, length, get_or, take, ℤ, pos, is_ok, is_err, Some, None, Ok, Err, sym, refl, ap, ◌∙◌, subst, arith}
+use Rattle.std.proofs.Common.{◌≡◌, ℕ, ◌-◌, true, cond, ◌&&◌, List, [], map, length, get_or, take, ℤ, pos, is_ok, Some, None, Ok, Err, sym, refl, ap, ◌∙◌}
 use Rattle.std.proofs.lemmas.List.{length-map}
-use Rattle.std.proofs.lemmas.Bool.{false≢true, true≢false}
+use Rattle.std.proofs.lemmas.Bool.{false≢true}
 use Rattle.standard.specs.declared.fault.Fault.{Fault}
 use Rattle.standard.specs.Faults.{Verdict, verdict}
 use Rattle.standard.specs.Sites.{within}
-use Rattle.formulas.specs.Buildings.{Mode}
 use Rattle.methods.specs.Shapes.{mode_of}
 use Rattle.sheet.specs.declared.modes.ModeTable.{ModeTable}
 use Rattle.sheet.specs.declared.sheet.Sheet.{Sheet}

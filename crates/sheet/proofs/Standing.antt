@@ -1,5 +1,5 @@
 -- Standing by a ledger is carried on by each call, and what follows of sums and distances. Assumes nothing.
-use Rattle.std.proofs.Common.{◌≡◌, ℕ, zero, suc, ◌+◌, ◌-◌, ◌*◌, ◌<◌, ◌≤◌, Bool, true, false, cond, not, ◌&&◌, eqb, ltb, leb, List, [], ◌∷◌, length, get_or, ℤ, pos, ◌+ℤ◌, is_ok, is_err, Some, None, Ok, Err, Option, sym, refl, ap, ◌∙◌, subst, arith}
+use Rattle.std.proofs.Common.{◌≡◌, ℕ, zero, suc, ◌-◌, ◌<◌, ◌≤◌, true, false, not, ◌&&◌, eqb, leb, List, [], ◌∷◌, length, get_or, ℤ, pos, ◌+ℤ◌, is_ok, is_err, Some, None, Ok, Err, Option, sym, refl, ap, ◌∙◌, subst, arith}
 use Rattle.std.specs.List.{AllByRecursion}
 use Rattle.std.proofs.lemmas.Bool.{cond-true, cond-false, and_from, and_parts, le-leb, eqb-false}
 use Rattle.std.proofs.lemmas.Bool.Decides.{nat_tests}
@@ -15,11 +15,11 @@ use Rattle.base_shear.proofs.Accelerations.{bounded as Bounded-at}
 use Rattle.combination.specs.declared.response.Response.{Response}
 use Rattle.combination.specs.Laws.{Laws}
 use Rattle.formulas.specs.declared.floor.Floor.{Floor}
-use Rattle.formulas.specs.Buildings.{Mode, Built}
+use Rattle.formulas.specs.Buildings.{Mode}
 use Rattle.formulas.specs.Exact.{CombinedNear, DesignNear}
 use Rattle.formulas.specs.Forces.{force_of, forces_up_to}
 use Rattle.formulas.specs.Modal.{M}
-use Rattle.formulas.specs.Static.{StaticNear, static_shear}
+use Rattle.formulas.specs.Static.{StaticNear}
 use Rattle.formulas.specs.Theorems.{Usable}
 use Rattle.formulas.proofs.Combined.{combined_near}
 use Rattle.formulas.proofs.Design.{design_near, design_raised, design_kept}

@@ -1,5 +1,5 @@
 -- Sums over lists that calls change. Assumes nothing.
-use Rattle.std.proofs.Common.{◌≡◌, ℕ, zero, suc, ◌+◌, ◌-◌, ◌<◌, ◌≤◌, List, [], ◌∷◌, ◌++◌, length, get_or, set, sym, refl, ap, ◌∙◌, subst, le_of_suc-le-suc, not-suc-le-zero, arith}
+use Rattle.std.proofs.Common.{◌≡◌, ℕ, zero, suc, ◌+◌, ◌<◌, ◌≤◌, List, [], ◌∷◌, ◌++◌, length, get_or, set, le_of_suc-le-suc, not-suc-le-zero, arith}
 use Rattle.rounding.specs.Sums.{sum_n}
 
 module _ {A : Type 0} (f : A → ℕ) where

@@ -1,7 +1,6 @@
 -- The promise: what a sheet shows after a list of calls, judged by a ledger that was fed the calls alone.
 use Rattle.std.specs.Prelude.{◌≡◌, ℕ, ◌<◌, ◌≤◌, List, length, ℤ, pos, Some, None, Ok, Option}
 use Rattle.standard.specs.declared.fraction.Fraction.{Fraction}
-use Rattle.standard.specs.declared.terms.SiteTerms.{SiteTerms}
 use Rattle.standard.specs.Faults.{verdict}
 use Rattle.spectra.specs.Spectra.{SpectrumLaw}
 use Rattle.base_shear.specs.Accelerations.{acceleration_at, acceleration_of}

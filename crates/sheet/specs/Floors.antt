@@ -1,5 +1,5 @@
 -- The floors of a sheet as a list, bottom first, and how calls change it.
-use Rattle.std.specs.Prelude.{ℕ, ◌-◌, Bool, true, ◌&&◌, List, [], ◌∷◌, ◌++◌, take, nat_lt, slice_index_or, slice_set}
+use Rattle.std.specs.Prelude.{ℕ, Bool, true, ◌&&◌, List, [], ◌∷◌, ◌++◌, take, nat_lt, slice_index_or, slice_set}
 use Rattle.formulas.specs.declared.floor.Floor.{Floor}
 use Rattle.methods.specs.Loads.{nothing, height_at}
 use Rattle.sheet.specs.declared.table.FloorTable.{FloorTable}

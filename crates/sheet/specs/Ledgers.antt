@@ -1,5 +1,5 @@
 -- The ledger: what follows from the calls alone.
-use Rattle.std.specs.Prelude.{◌≡◌, ℕ, ◌+◌, ◌-◌, Bool, not, ◌&&◌, ◌||◌, List, [], ◌∷◌, ◌++◌, length, ℤ, Some, None, Ok, Err, Option, ◌==◌, nat_le, nat_lt}
+use Rattle.std.specs.Prelude.{ℕ, ◌+◌, ◌-◌, Bool, not, ◌&&◌, ◌||◌, List, [], ◌∷◌, ◌++◌, length, ℤ, Some, None, Ok, Err, Option, ◌==◌, nat_le, nat_lt}
 use Rattle.standard.specs.declared.fault.Ground.TheVariants.{FloorHeight, FloorWeight, TotalWeight, TooManyFloors, NoSuchFloor, ModesEntered, OrdinateCount, ModePeriod, OrdinateRange, OrdinatesAllZero, TooManyModes, NoSuchMode}
 use Rattle.standard.specs.declared.fraction.Fraction.{Fraction}
 use Rattle.standard.specs.declared.terms.SiteTerms.{SiteTerms}

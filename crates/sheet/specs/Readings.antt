@@ -1,5 +1,5 @@
 -- What is to be read of a storey, by the formulas, from floors, modes and the last call.
-use Rattle.std.specs.Prelude.{ℕ, cond, List, length, ℤ, Some, None, Option}
+use Rattle.std.specs.Prelude.{ℕ, cond, List, length, Some, None, Option}
 use Rattle.standard.specs.Sites.{within}
 use Rattle.formulas.specs.declared.floor.Floor.{Floor}
 use Rattle.formulas.specs.Buildings.{Mode}

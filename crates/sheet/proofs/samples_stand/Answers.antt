@@ -1,6 +1,5 @@
-use Rattle.std.proofs.Common.{◌≡◌, ℕ, ◌+◌, ◌-◌, ◌*◌, ◌<◌, ◌≤◌, not, ◌&&◌, eqb, ltb, List, [], ◌∷◌, length, pos, ◌-ℤ◌, Some, None, Err, sym, refl, ap, ◌∙◌, lit<, lit≤}
+use Rattle.std.proofs.Common.{◌≡◌, ℕ, ◌+◌, ◌-◌, ◌*◌, ◌<◌, ◌≤◌, not, ◌&&◌, eqb, ltb, List, [], ◌∷◌, length, pos, ◌-ℤ◌, Some, Err, sym, ap, lit<, lit≤}
 use Rattle.standard.specs.declared.fault.Ground.TheVariants.{NoFloors, PeriodTooLong, ModalWeightShort, NoCombinedShear}
-use Rattle.standard.specs.declared.terms.Formula.TheVariants.{ConcreteFrame}
 use Rattle.standard.specs.declared.terms.Soil.TheVariants.{Hard, Medium}
 use Rattle.standard.specs.Faults.{refusal, fault, Verdict, verdict}
 use Rattle.rounding.specs.Rounding.{nearest, nearestℤ}
@@ -9,7 +8,6 @@ use Rattle.rounding.proofs.Roots.{only}
 use Rattle.spectra.specs.Spectra.{code_curve}
 use Rattle.base_shear.specs.Accelerations.{acceleration_of}
 use Rattle.base_shear.specs.Samples.{office}
-use Rattle.base_shear.specs.Periods.{period_of}
 use Rattle.base_shear.proofs.SampleFigures.{samples, office_period, frame_period}
 use Rattle.combination.specs.declared.response.Response.{Response}
 use Rattle.combination.specs.Squared.{squares, squared_total}

@@ -1,5 +1,5 @@
-use Rattle.std.proofs.Common.{◌≡◌, ℕ, ◌+◌, ◌<◌, ◌≤◌, length, get_or, take, drop, ℤ, pos, nat_abs, sym, refl, ap, ◌∙◌, subst, arith, w16, SFits, rules}
-use Rattle.sheet.specs.Modes.{typed, first_outside_from}
+use Rattle.std.proofs.Common.{◌≡◌, ◌+◌, length, get_or, pos, sym, ◌∙◌, arith, w16, SFits, rules}
+use Rattle.sheet.specs.Modes.{typed}
 use Rattle.sheet.proofs.Ordinates.{first_found, first_passed, first_none, typed_length, typed_size}
 use Rattle.sheet.proofs.modes.ModeShape.first_outside.Goals as goal
 

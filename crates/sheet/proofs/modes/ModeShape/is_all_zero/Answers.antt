@@ -1,4 +1,4 @@
-use Rattle.std.proofs.Common.{◌≡◌, ℕ, ◌+◌, ◌<◌, ◌≤◌, length, get_or, take, drop, ℤ, pos, nat_abs, sym, refl, ap, ◌∙◌, subst, arith, w16, SFits, rules}
+use Rattle.std.proofs.Common.{◌≡◌, length, get_or, pos, sym, ◌∙◌, arith, w16, SFits, rules}
 use Rattle.sheet.specs.Modes.{typed}
 use Rattle.sheet.proofs.Ordinates.{zero_broken, zero_passed, zero_all, typed_length, typed_size}
 use Rattle.sheet.proofs.modes.ModeShape.is_all_zero.Goals as goal

@@ -1,5 +1,5 @@
-use Rattle.std.proofs.Common.{◌≡◌, ℕ, ◌+◌, ◌-◌, ◌<◌, ◌≤◌, leb, [], length, get_or, take, sym, refl, ap, ◌∙◌, subst, arith, rules}
-use Rattle.std.proofs.lemmas.List.{get_or-take, length-take-le, length-map, get_or-map}
+use Rattle.std.proofs.Common.{◌≡◌, ℕ, ◌-◌, ◌<◌, ◌≤◌, leb, [], length, get_or, sym, ap, ◌∙◌, arith, rules}
+use Rattle.std.proofs.lemmas.List.{get_or-take, length-take-le, get_or-map}
 use Rattle.formulas.specs.Buildings.{Mode}
 use Rattle.methods.specs.declared.modes.ModeRow.{ModeRow}
 use Rattle.methods.specs.Shapes.{mode_of}

@@ -1,9 +1,8 @@
-use Rattle.std.proofs.Common.{◌≡◌, ℕ, ◌+◌, ◌≤◌, true, List, length, Ok, Err, sym, refl, ap, ◌∙◌, subst, arith}
+use Rattle.std.proofs.Common.{◌≡◌, ℕ, ◌+◌, true, List, length, Err, sym, refl, ap, ◌∙◌, subst, arith}
 use Rattle.std.proofs.lemmas.Result.{err_from_is_err_and}
-use Rattle.std.proofs.lemmas.Bool.{false≢true}
-use Rattle.standard.specs.Faults.{Verdict, verdict}
+use Rattle.standard.specs.Faults.{verdict}
 use Rattle.formulas.specs.declared.floor.Floor.{Floor}
-use Rattle.formulas.specs.Buildings.{Mode, W}
+use Rattle.formulas.specs.Buildings.{W}
 use Rattle.methods.specs.Loads.{every, in_range, roof_of}
 use Rattle.methods.specs.Shapes.{falls_from, usable}
 use Rattle.sheet.specs.declared.sheet.Sheet.{Sheet}
@@ -11,8 +10,8 @@ use Rattle.sheet.specs.Contents.{floors_in, modes_in}
 use Rattle.sheet.specs.Floors.{floors_of, rises_from}
 use Rattle.sheet.specs.Ledgers.{floor, floor_grounds, refusals}
 use Rattle.sheet.proofs.FloorLists.{rises_grown, ranged_grown, weight_grown, length_grown}
-use Rattle.sheet.proofs.Judged.{FloorTaken, floor_taken}
-use Rattle.sheet.proofs.Sheets.{draft_reads, draft_forced, refused, edited, modes_length, no_modes}
+use Rattle.sheet.proofs.Judged.{floor_taken}
+use Rattle.sheet.proofs.Sheets.{draft_forced, refused, edited, modes_length, no_modes}
 use Rattle.sheet.proofs.sheet.Sheet.floor.Goals as goal
 
 -- the numbers that are judged are those of the floors and modes that the sheet holds

@@ -1,11 +1,10 @@
-use Rattle.std.proofs.Common.{◌≡◌, ℕ, ◌+◌, ◌-◌, ◌<◌, ◌≤◌, Bool, true, false, not, ◌&&◌, eqb, leb, List, [], ◌∷◌, ◌++◌, map, length, take, ℤ, Ok, Err, sym, refl, ap, ◌∙◌, subst, arith, rules}
-use Rattle.std.proofs.lemmas.List.{length_push, length-take, map_push}
+use Rattle.std.proofs.Common.{◌≡◌, ℕ, ◌+◌, Bool, true, not, eqb, leb, List, [], ◌∷◌, ◌++◌, map, length, Err, sym, refl, ap, ◌∙◌, subst, arith, rules}
+use Rattle.std.proofs.lemmas.List.{length_push, map_push}
 use Rattle.std.proofs.lemmas.Result.{err_from_is_err_and}
 use Rattle.std.proofs.lemmas.Bool.{and_from, and_parts, eq-eqb, leb-true}
-use Rattle.standard.specs.Faults.{Verdict, verdict}
+use Rattle.standard.specs.Faults.{verdict}
 use Rattle.standard.specs.Sites.{within}
 use Rattle.formulas.specs.Buildings.{Mode}
-use Rattle.methods.specs.declared.modes.ModeRow.{ModeRow}
 use Rattle.methods.specs.Loads.{every}
 use Rattle.methods.specs.Shapes.{mode_of, falls_from, usable, all_zero, outside}
 use Rattle.methods.proofs.Lists.{every_append}

@@ -1,6 +1,6 @@
-use Rattle.std.proofs.Common.{◌≡◌, ℕ, ◌+◌, ◌-◌, ◌<◌, ◌≤◌, true, List, length, Ok, Err, sym, refl, ap, ◌∙◌, subst, arith}
+use Rattle.std.proofs.Common.{◌≡◌, ℕ, ◌+◌, ◌-◌, ◌<◌, true, List, length, Err, sym, refl, ap, ◌∙◌, subst, arith}
 use Rattle.std.proofs.lemmas.Result.{err_from_is_err_and}
-use Rattle.standard.specs.Faults.{Verdict, verdict}
+use Rattle.standard.specs.Faults.{verdict}
 use Rattle.formulas.specs.declared.floor.Floor.{Floor}
 use Rattle.formulas.specs.Buildings.{W}
 use Rattle.methods.specs.Loads.{every, in_range}
@@ -11,7 +11,7 @@ use Rattle.sheet.specs.Floors.{floors_of, rises_from, weight_at, reweighed}
 use Rattle.sheet.specs.Ledgers.{reweigh, reweigh_grounds, refusals}
 use Rattle.sheet.specs.Modes.{modes_held_in}
 use Rattle.sheet.proofs.FloorLists.{rises_reweighed, ranged_reweighed, weight_within, weight_reweighed, length_reweighed}
-use Rattle.sheet.proofs.Judged.{ReweighTaken, reweigh_taken}
+use Rattle.sheet.proofs.Judged.{reweigh_taken}
 use Rattle.sheet.proofs.Sheets.{draft_forced, refused, edited}
 use Rattle.sheet.proofs.sheet.Sheet.reweigh.Goals as goal
 

@@ -1,15 +1,14 @@
-use Rattle.std.proofs.Common.{◌≡◌, ℕ, Bool, true, cond, eqb, List, length, Ok, Err, Result, sym, refl, ap, ◌∙◌, subst, arith}
+use Rattle.std.proofs.Common.{◌≡◌, ℕ, eqb, List, length, Ok, Err, Result, sym, refl, ap, ◌∙◌, subst, arith}
 use Rattle.std.proofs.lemmas.Result.{err_from_is_err_and}
 use Rattle.std.proofs.lemmas.Bool.{cond-true, eq-eqb}
 use Rattle.standard.specs.declared.fault.Fault.{Fault}
 use Rattle.standard.specs.declared.fault.Ground.TheVariants.{NoFloors}
 use Rattle.standard.specs.declared.fraction.Fraction.{Fraction}
 use Rattle.standard.specs.declared.terms.SiteTerms.{SiteTerms}
-use Rattle.standard.specs.Faults.{Verdict, verdict, fault}
+use Rattle.standard.specs.Faults.{verdict, fault}
 use Rattle.formulas.specs.declared.floor.Floor.{Floor}
 use Rattle.methods.specs.declared.outcome.Outcome.{Outcome}
 use Rattle.methods.specs.Outcomes.{Gives, StaticAnswers, static_shears_of}
-use Rattle.methods.specs.Refusals.{static_refusals}
 use Rattle.methods.specs.Views.{floors_of_loads}
 use Rattle.sheet.specs.declared.sheet.Sheet.{Sheet}
 use Rattle.sheet.specs.Contents.{floors_in, modes_in}

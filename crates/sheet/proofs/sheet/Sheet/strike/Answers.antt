@@ -1,7 +1,7 @@
-use Rattle.std.proofs.Common.{◌≡◌, ℕ, suc, ◌+◌, ◌-◌, ◌<◌, ◌≤◌, Bool, true, false, not, ◌&&◌, List, [], ◌∷◌, ◌++◌, map, length, take, drop, Ok, Err, sym, refl, ap, ◌∙◌, subst, arith}
+use Rattle.std.proofs.Common.{◌≡◌, ℕ, suc, ◌+◌, ◌-◌, ◌<◌, true, List, ◌++◌, map, length, take, drop, Err, sym, refl, ap, ◌∙◌, subst, arith}
 use Rattle.std.proofs.lemmas.List.{length-append, length-take-le, length-drop, map-append, take-map, drop-map}
 use Rattle.std.proofs.lemmas.Result.{err_from_is_err_and}
-use Rattle.standard.specs.Faults.{Verdict, verdict}
+use Rattle.standard.specs.Faults.{verdict}
 use Rattle.formulas.specs.Buildings.{Mode}
 use Rattle.methods.specs.declared.modes.ModeRow.{ModeRow}
 use Rattle.methods.specs.Loads.{every}
