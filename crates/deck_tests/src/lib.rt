@@ -183,7 +183,7 @@ mod tests {
     fn whole_deck(rt: HostRuntime) {
         let mut page = [0; 40];
         assert_eq!(rt; take_deck(&whole()).print(&mut page).unwrap_or(0), 33);
-        assert!(rt; &page[0..33] == b"base 1600\n2 1002 1002\n1 1600 598\n");
+        assert!(rt; &page[0..33] == b"base 1600\n2 1002 1002\n1 1600 598\n".as_slice());
     }
 
     #[test]
@@ -191,7 +191,7 @@ mod tests {
         let cut = card(&SITE);
         let mut page = [0; 5];
         assert_eq!(rt; take_deck(&cut[0..95]).print(&mut page).unwrap_or(0), 5);
-        assert!(rt; &page[0..5] == b"none\n");
+        assert!(rt; &page[0..5] == b"none\n".as_slice());
     }
 
     #[test]
@@ -200,7 +200,7 @@ mod tests {
         let mut page = [0; 40];
         let desk = answer_deck(&whole(), &mut answers);
         assert_eq!(rt; desk.print(&mut page).unwrap_or(0), 33);
-        assert!(rt; &page[0..33] == b"base 1600\n2 1002 1002\n1 1600 598\n");
+        assert!(rt; &page[0..33] == b"base 1600\n2 1002 1002\n1 1600 598\n".as_slice());
         for i in 0..6 {
             assert_eq!(rt; told_at(&answers, i), (0, 0));
         }
@@ -215,7 +215,7 @@ mod tests {
         let mut page = [0; 5];
         let desk = answer_deck(&cut[0..95], &mut answers);
         assert_eq!(rt; desk.print(&mut page).unwrap_or(0), 5);
-        assert!(rt; &page[0..5] == b"none\n");
+        assert!(rt; &page[0..5] == b"none\n".as_slice());
         assert_eq!(rt; told_at(&answers, 0), (1, 95));
     }
 
