@@ -1,2 +1,3 @@
+pub mod SquaresLaws
 pub mod Checked
 pub mod Grown

@@ -7,7 +7,7 @@ pub mod Theorems
 pub mod Examples
 pub mod TotalLaws
 pub mod Numbers
-pub mod SquaresLaws
+pub mod SquareSums
 pub mod Bound
 pub mod GroupsLaws
 pub mod Rising

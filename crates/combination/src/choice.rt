@@ -1,8 +1,9 @@
+ghost use Rattle.std.specs.Prelude.{refl};
 ghost use Rattle.combination.specs.Choice.{chosen};
 ghost use Rattle.combination.specs.declared.choice.RuleChoice.TheVariants.{SumOfSquares, AbsoluteSum, GroupedSumOfSquares, GroupedAbsoluteSum};
 ghost use Rattle.combination.specs.Squared;
 ghost use Rattle.combination.specs.Squared.{squared_total};
-ghost use Rattle.combination.specs.SquaresLaws;
+ghost use Rattle.combination.specs.SquareSums;
 ghost use Rattle.combination.specs.TotalLaws;
 ghost use Rattle.combination.specs.GroupsLaws;
 
@@ -25,30 +26,30 @@ impl Rule for RuleChoice {
     ghost squared = { chosen };
 
     ghost lone = { elim [
-      | SumOfSquares ↦ SquaresLaws.lone
+      | SumOfSquares ↦ SquareSums.lone Squared.squares (record { start = refl; step = λ x xs. refl })
       | AbsoluteSum ↦ TotalLaws.lone
-      | GroupedSumOfSquares ↦ GroupsLaws.lone Squared.squares SquaresLaws.lone
+      | GroupedSumOfSquares ↦ GroupsLaws.lone Squared.squares (SquareSums.lone Squared.squares (record { start = refl; step = λ x xs. refl }))
       | GroupedAbsoluteSum ↦ GroupsLaws.lone squared_total TotalLaws.lone
     ] };
 
     ghost scale = { elim [
-      | SumOfSquares ↦ SquaresLaws.scale
+      | SumOfSquares ↦ SquareSums.scale Squared.squares (record { start = refl; step = λ x xs. refl })
       | AbsoluteSum ↦ TotalLaws.scale
-      | GroupedSumOfSquares ↦ GroupsLaws.scale Squared.squares SquaresLaws.scale
+      | GroupedSumOfSquares ↦ GroupsLaws.scale Squared.squares (SquareSums.scale Squared.squares (record { start = refl; step = λ x xs. refl }))
       | GroupedAbsoluteSum ↦ GroupsLaws.scale squared_total TotalLaws.scale
     ] };
 
     ghost triangle = { elim [
-      | SumOfSquares ↦ SquaresLaws.triangle
+      | SumOfSquares ↦ SquareSums.triangle Squared.squares (record { start = refl; step = λ x xs. refl })
       | AbsoluteSum ↦ TotalLaws.triangle
-      | GroupedSumOfSquares ↦ GroupsLaws.triangle Squared.squares SquaresLaws.triangle SquaresLaws.rise
+      | GroupedSumOfSquares ↦ GroupsLaws.triangle Squared.squares (SquareSums.triangle Squared.squares (record { start = refl; step = λ x xs. refl })) (SquareSums.rise Squared.squares (record { start = refl; step = λ x xs. refl }))
       | GroupedAbsoluteSum ↦ GroupsLaws.triangle squared_total TotalLaws.triangle TotalLaws.rise
     ] };
 
     ghost rise = { elim [
-      | SumOfSquares ↦ SquaresLaws.rise
+      | SumOfSquares ↦ SquareSums.rise Squared.squares (record { start = refl; step = λ x xs. refl })
       | AbsoluteSum ↦ TotalLaws.rise
-      | GroupedSumOfSquares ↦ GroupsLaws.rise Squared.squares SquaresLaws.rise
+      | GroupedSumOfSquares ↦ GroupsLaws.rise Squared.squares (SquareSums.rise Squared.squares (record { start = refl; step = λ x xs. refl }))
       | GroupedAbsoluteSum ↦ GroupsLaws.rise squared_total TotalLaws.rise
     ] };
 

@@ -1,5 +1,6 @@
+ghost use Rattle.std.specs.Prelude.{refl};
 ghost use Rattle.combination.specs.Squared.{squares};
-ghost use Rattle.combination.specs.SquaresLaws;
+ghost use Rattle.combination.specs.SquareSums;
 
 use crate::responses::Responses;
 use crate::rule::Rule;
@@ -12,13 +13,13 @@ pub struct SumOfSquares;
 impl Rule for SumOfSquares {
     ghost squared = { λ s xs. squares xs };
 
-    ghost lone = { λ s. SquaresLaws.lone };
+    ghost lone = { λ s. SquareSums.lone squares (record { start = refl; step = λ x xs. refl }) };
 
-    ghost scale = { λ s. SquaresLaws.scale };
+    ghost scale = { λ s. SquareSums.scale squares (record { start = refl; step = λ x xs. refl }) };
 
-    ghost triangle = { λ s. SquaresLaws.triangle };
+    ghost triangle = { λ s. SquareSums.triangle squares (record { start = refl; step = λ x xs. refl }) };
 
-    ghost rise = { λ s. SquaresLaws.rise };
+    ghost rise = { λ s. SquareSums.rise squares (record { start = refl; step = λ x xs. refl }) };
 
     fn combine(&self, list: Responses<'_>) -> u32 {
         let mut sum: u64 = 0;

@@ -14,7 +14,7 @@ use Rattle.combination.specs.Choice.{chosen}
 use Rattle.combination.specs.Laws.{Laws}
 use Rattle.combination.specs.Squared.{squares, squared_total}
 use Rattle.combination.specs.GroupsLaws as groups
-use Rattle.combination.specs.SquaresLaws
+use Rattle.combination.proofs.SquaresLaws
 use Rattle.combination.specs.TotalLaws
 use Rattle.records.specs.Rows as rows
 use Rattle.records.specs.Rows.{Row}

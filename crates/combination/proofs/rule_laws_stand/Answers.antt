@@ -3,7 +3,7 @@ use Rattle.rounding.proofs.Roots.{root_laws}
 use Rattle.combination.specs.declared.response.Response.{Response}
 use Rattle.combination.specs.Laws.{Laws, Consequences}
 use Rattle.combination.specs.Examples.{Examples}
-use Rattle.combination.specs.SquaresLaws
+use Rattle.combination.proofs.SquaresLaws
 use Rattle.combination.specs.TotalLaws
 use Rattle.combination.specs.GroupsLaws
 use Rattle.combination.specs.Bound.{at_most_total, rooted}

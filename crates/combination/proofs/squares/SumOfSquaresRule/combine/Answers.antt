@@ -6,7 +6,7 @@ use Rattle.combination.specs.declared.response.Response.{Response}
 use Rattle.combination.specs.Values.{mode, size, largest}
 use Rattle.combination.specs.Squared.{squares}
 use Rattle.combination.specs.Numbers.{root_at_most}
-use Rattle.combination.specs.SquaresLaws.{squares_small}
+use Rattle.combination.proofs.SquaresLaws.{squares_small}
 use Rattle.combination.proofs.squares.SumOfSquaresRule.combine.Goals as goal
 
 pub loop-x-init : goal.loop-x-init
