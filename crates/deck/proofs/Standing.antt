@@ -1,24 +1,20 @@
 -- Standing by a book is carried on by each record. Assumes nothing.
-use Rattle.std.proofs.Common.{◌≡◌, ℕ, Bool, true, false, List, [], ◌∷◌, ◌++◌, is_ok, is_err, Some, None, Ok, Err, fold, Option, Result, sym, refl, ap, ◌∙◌, subst, arith}
+use Rattle.std.proofs.Common.{◌≡◌, ℕ, List, [], is_ok, is_err, Some, None, Ok, Err, Option, Result, sym, refl, ap, ◌∙◌, subst, arith}
 use Rattle.std.specs.Option.{option_map}
 use Rattle.std.proofs.lemmas.List.Sums.{fold_push}
-use Rattle.std.proofs.lemmas.Bool.{false≢true}
 use Rattle.standard.specs.declared.fault.Fault.{Fault}
 use Rattle.standard.specs.declared.site.Site.{Site}
 use Rattle.standard.specs.declared.terms.SiteTerms.{SiteTerms}
-use Rattle.standard.specs.Faults.{Verdict, verdict}
+use Rattle.standard.specs.Faults.{Verdict}
 use Rattle.base_shear.specs.Periods.{BaseGoes}
 use Rattle.records.specs.Rows.{Row, record_of}
 use Rattle.sheet.specs.declared.sheet.Sheet.{Sheet}
-use Rattle.sheet.specs.Answers.{Answers, Stands}
-use Rattle.sheet.specs.Contents.{floors_in, modes_in}
 use Rattle.sheet.specs.Faultless.{Faultless, FairLedger, Fair}
 use Rattle.sheet.specs.Ledgers.{Asked, Ledger, step}
 use Rattle.sheet.proofs.Standing.{carried, fair_step, faultless}
 use Rattle.deck.specs.declared.desk.Desk.{Desk}
 use Rattle.deck.specs.Books.{Deed, accept, ask, deed, judged, Book, verdict_in, entered, turned, enter, book_of, blank}
-use Rattle.deck.specs.Desks.{site_in, CallLeft, Left, LeftBy, Does, Takes, DeskStands, CarriesOn}
-use Rattle.deck.specs.Terms.{terms_of}
+use Rattle.deck.specs.Desks.{site_in, CallLeft, Left, Does, Takes, DeskStands, CarriesOn}
 use Rattle.deck.proofs.FairDeeds.{FairAt, fair_deed}
 
 -- the site that a desk holds was accepted

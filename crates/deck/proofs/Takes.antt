@@ -1,10 +1,9 @@
 -- What the deeds of a desk come to. Assumes nothing.
-use Rattle.std.proofs.Common.{◌≡◌, ℕ, ◌≤◌, min, Bool, true, false, ◌⊎◌, List, length, take, ℤ, is_some, Some, None, Option, sym, refl, ap, ◌∙◌, subst, inl, inr, arith}
+use Rattle.std.proofs.Common.{◌≡◌, ℕ, min, false, List, length, take, ℤ, is_some, Some, None, Option, sym, refl, ap, ◌∙◌, inl, inr, arith}
 use Rattle.std.specs.Option.{option_map}
 use Rattle.std.proofs.lemmas.List.{take_all}
 use Rattle.std.proofs.lemmas.Bool.{cases_lt, true≢false}
 use Rattle.standard.specs.declared.site.Site.{Site}
-use Rattle.standard.specs.declared.terms.SiteTerms.{SiteTerms}
 
 -- without a site there are no terms
 pub no_site : (o : Option Site) → is_some o ≡ false → option_map (λ s. s.terms) o ≡ None

@@ -1,5 +1,5 @@
 -- The book of a deck: what follows from its records alone.
-use Rattle.std.specs.Prelude.{ℕ, min, Bool, true, not, List, [], ◌∷◌, ◌++◌, Some, None, Ok, Err, fold, Option, Result}
+use Rattle.std.specs.Prelude.{ℕ, min, true, not, List, [], ◌∷◌, ◌++◌, Some, None, Ok, Err, fold, Option, Result}
 use Rattle.standard.specs.declared.fault.Fault.{Fault}
 use Rattle.standard.specs.declared.fault.Ground.TheVariants.{SiteOrder, NoSuchRule}
 use Rattle.standard.specs.declared.terms.SiteTerms.{SiteTerms}

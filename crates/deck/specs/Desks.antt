@@ -4,14 +4,14 @@ use Rattle.std.specs.Option.{option_map}
 use Rattle.standard.specs.declared.fault.Fault.{Fault}
 use Rattle.standard.specs.declared.terms.SiteTerms.{SiteTerms}
 use Rattle.standard.specs.Faults.{Verdict, verdict}
-use Rattle.records.specs.Rows.{Row, record_of}
+use Rattle.records.specs.Rows.{Row}
 use Rattle.sheet.specs.declared.sheet.Sheet.{Sheet}
 use Rattle.sheet.specs.Answers.{Answers}
 use Rattle.sheet.specs.Contents.{floors_in, modes_in}
 use Rattle.sheet.specs.Faultless.{Faultless, FairLedger}
 use Rattle.sheet.specs.Ledgers.{Asked}
 use Rattle.deck.specs.declared.desk.Desk.{Desk}
-use Rattle.deck.specs.Books.{Deed, accept, ask, deed, grounds, judged, Book, verdict_in, enter, book_of}
+use Rattle.deck.specs.Books.{Deed, accept, ask, deed, grounds, judged, Book, verdict_in, book_of}
 use Rattle.deck.specs.Terms.{terms_of}
 
 -- the terms of the site that a desk holds

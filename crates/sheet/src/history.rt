@@ -1,6 +1,6 @@
 // A sheet from a list of calls.
 ghost use Rattle.std.specs.Prelude.{◌≡◌};
-ghost use Rattle.sheet.specs.Answers.{Answers};
+ghost use Rattle.sheet.specs.Answers.{Answers, Staged};
 ghost use Rattle.sheet.specs.Faultless.{Faultless};
 ghost use Rattle.sheet.specs.Histories.{asked, ledger_of};
 
@@ -19,7 +19,8 @@ pub fn perform<C: Spectrum, R: Rule>(
     rule: &R,
     call: &Call,
 ) -> Result<(), Fault>
-    ensures { Answers sheet.old (asked site.now.terms (C.Spectrum.ordinate spectrum.now) (R.Rule.squared rule.now) call.now) result sheet.new }
+    ensures answers { Answers sheet.old (asked site.now.terms (C.Spectrum.ordinate spectrum.now) (R.Rule.squared rule.now) call.now) result sheet.new }
+    ensures staged { Staged (asked site.now.terms (C.Spectrum.ordinate spectrum.now) (R.Rule.squared rule.now) call.now) result sheet.new }
 {
     match call {
         Call::Floor { height, weight } => sheet.floor(*height, *weight),

@@ -1,12 +1,10 @@
-use Rattle.std.proofs.Common.{◌≡◌, ℕ, ◌*◌, not, ◌&&◌, eqb, ltb, List, [], ◌∷◌, ◌++◌, length, pos, Some, Ok, codes, decimal, sym, refl, ap, ◌∙◌, subst, lit<}
+use Rattle.std.proofs.Common.{◌≡◌, ℕ, ◌*◌, not, ◌&&◌, eqb, ltb, List, [], ◌∷◌, ◌++◌, length, Some, Ok, codes, decimal, refl, ap, ◌∙◌, subst}
 use Rattle.std.specs.Fmt.{digits}
 use Rattle.standard.specs.declared.fault.Ground.TheVariants.{NoFloors, PeriodTooLong, ModalWeightShort, NoCombinedShear}
-use Rattle.standard.specs.declared.terms.Formula.TheVariants.{ConcreteFrame}
 use Rattle.standard.specs.declared.terms.Soil.TheVariants.{Hard}
 use Rattle.standard.specs.Faults.{refusal, Verdict, verdict}
 use Rattle.rounding.specs.Rounding.{nearest, nearestℤ}
 use Rattle.spectra.specs.Spectra.{code_curve}
-use Rattle.base_shear.specs.Periods.{period_of}
 use Rattle.base_shear.proofs.SampleFigures.{frame_period}
 use Rattle.combination.specs.Squared.{squares}
 use Rattle.formulas.specs.Buildings.{W}
@@ -21,10 +19,10 @@ use Rattle.sheet.specs.Floors.{counted}
 use Rattle.sheet.specs.Ledgers.{Asked, modal, Ledger, refusals, step_by}
 use Rattle.sheet.specs.Ledgers as asks
 use Rattle.sheet.specs.Readings.{expected}
-use Rattle.sheet.specs.Samples.{frame, frame_floors, slow, quick, frame_reads, Samples}
+use Rattle.sheet.specs.Samples.{frame, frame_floors, slow, quick, Samples}
 use Rattle.deck.specs.Books.{Book, book_of, turned, verdict_in}
 use Rattle.deck.specs.Desks.{DeskStands}
-use Rattle.deck.specs.Prints.{read_text, sheet_text}
+use Rattle.deck.specs.Prints.{read_text}
 use Rattle.deck.specs.Rules.{meaning_of}
 use Rattle.deck.specs.Samples.{PrintLaw, FramePrint, card, frame_deck}
 use Rattle.deck.proofs.prints_stand.Goals as goal

@@ -1,5 +1,5 @@
 ghost use Rattle.std.specs.Prelude.{◌≡◌};
-ghost use Rattle.sheet.specs.Answers.{Answers, Stands};
+ghost use Rattle.sheet.specs.Answers.{Answers, Staged, Stands};
 ghost use Rattle.sheet.specs.Ledgers.{opened, floor as floor_call, reweigh as reweigh_call, mode as mode_call, strike as strike_call};
 ghost use Rattle.sheet.specs.Modes.{typed};
 
@@ -45,7 +45,8 @@ impl Sheet {
 
     // One floor more, on top.
     pub fn floor(&mut self, height: u16, weight: u32) -> Result<(), Fault>
-        ensures { Answers self.old (floor_call height weight) result self.new }
+        ensures answers { Answers self.old (floor_call height weight) result self.new }
+        ensures staged { Staged (floor_call height weight) result self.new }
     {
         let mut table = self.table;
         judge_floor(
@@ -71,7 +72,8 @@ impl Sheet {
 
     // Another weight for one floor.
     pub fn reweigh(&mut self, floor: u8, weight: u32) -> Result<(), Fault>
-        ensures { Answers self.old (reweigh_call floor weight) result self.new }
+        ensures answers { Answers self.old (reweigh_call floor weight) result self.new }
+        ensures staged { Staged (reweigh_call floor weight) result self.new }
     {
         let mut table = self.table;
         let place = (floor as usize).saturating_sub(1);
@@ -92,7 +94,8 @@ impl Sheet {
 
     // One mode more, the last.
     pub fn mode(&mut self, shape: &ModeShape) -> Result<(), Fault>
-        ensures { Answers self.old (mode_call shape.now.period shape.now.count (typed shape.now)) result self.new }
+        ensures answers { Answers self.old (mode_call shape.now.period shape.now.count (typed shape.now)) result self.new }
+        ensures staged { Staged (mode_call shape.now.period shape.now.count (typed shape.now)) result self.new }
     {
         let mut modes = self.modes;
         let reached = modes.reaches_down_to(shape.period);
@@ -125,7 +128,8 @@ impl Sheet {
 
     // Without one mode: later modes move up by one.
     pub fn strike(&mut self, mode: u8) -> Result<(), Fault>
-        ensures { Answers self.old (strike_call mode) result self.new }
+        ensures answers { Answers self.old (strike_call mode) result self.new }
+        ensures staged { Staged (strike_call mode) result self.new }
     {
         let mut modes = self.modes;
         judge_strike(modes.count, mode)?;

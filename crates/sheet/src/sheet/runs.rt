@@ -1,6 +1,6 @@
 ghost use Rattle.std.specs.Prelude.{◌≡◌, ◌≤◌};
 ghost use Rattle.methods.specs.Views.{floors_of_loads, floors_in as floors_seen, modes_in as modes_seen};
-ghost use Rattle.sheet.specs.Answers.{Answers};
+ghost use Rattle.sheet.specs.Answers.{Answers, Staged};
 ghost use Rattle.sheet.specs.Contents.{floors_in, modes_in};
 ghost use Rattle.sheet.specs.Floors.{counted};
 ghost use Rattle.sheet.specs.Ledgers.{static as static_call, modal as modal_call};
@@ -19,7 +19,8 @@ use standard::site::Site;
 impl Sheet {
     // Shears and forces by the static method, in place of earlier ones.
     pub fn run_static<C: Spectrum>(&mut self, site: &Site, spectrum: &C) -> Result<(), Fault>
-        ensures { Answers self.old (static_call site.now.terms (C.Spectrum.ordinate spectrum.now)) result self.new }
+        ensures answers { Answers self.old (static_call site.now.terms (C.Spectrum.ordinate spectrum.now)) result self.new }
+        ensures staged { Staged (static_call site.now.terms (C.Spectrum.ordinate spectrum.now)) result self.new }
     {
         if self.table.count == 0 {
             return Err(Fault {
@@ -50,7 +51,8 @@ impl Sheet {
         spectrum: &C,
         rule: &R,
     ) -> Result<(), Fault>
-        ensures { Answers self.old (modal_call site.now.terms (C.Spectrum.ordinate spectrum.now) (R.Rule.squared rule.now)) result self.new }
+        ensures answers { Answers self.old (modal_call site.now.terms (C.Spectrum.ordinate spectrum.now) (R.Rule.squared rule.now)) result self.new }
+        ensures staged { Staged (modal_call site.now.terms (C.Spectrum.ordinate spectrum.now) (R.Rule.squared rule.now)) result self.new }
     {
         if self.table.count == 0 {
             return Err(Fault {

@@ -1,9 +1,9 @@
-use Rattle.std.proofs.Common.{◌≡◌, ℕ, zero, suc, ◌+◌, ◌-◌, ◌*◌, ◌/◌, ◌%◌, ◌<◌, ◌≤◌, min, ◌⊎◌, List, [], ◌∷◌, ◌++◌, length, take, drop, set, fold, sym, refl, ap, ◌∙◌, subst, inl, inr, not-suc-le-zero, add-one, arith}
+use Rattle.std.proofs.Common.{◌≡◌, ℕ, zero, suc, ◌+◌, ◌-◌, ◌*◌, ◌/◌, ◌%◌, ◌<◌, ◌≤◌, min, List, [], ◌∷◌, ◌++◌, length, take, drop, set, fold, sym, refl, ap, ◌∙◌, subst, inl, inr, not-suc-le-zero, add-one, arith}
 use Rattle.std.proofs.lemmas.List.{take_all, length-drop, length_push}
 use Rattle.std.proofs.lemmas.Bool.{cases_lt}
 use Rattle.standard.specs.Faults.{Verdict}
 use Rattle.deck.specs.Books.{Book, book_of, verdict_in, enter, blank}
-use Rattle.deck.specs.Decks.{first_records, records_of, verdicts_from, verdicts_of, overlaid}
+use Rattle.deck.specs.Decks.{first_records, verdicts_from, verdicts_of, overlaid}
 use Rattle.deck.specs.Desks.{DeskStands}
 use Rattle.deck.proofs.answered.answer_deck.Goals as goal
 use Rattle.deck.proofs.answered.answer_deck.Goals.{then-i-answers, else-i-answers}

@@ -1,4 +1,4 @@
-use Rattle.std.proofs.Common.{◌≡◌, ℕ, suc, ◌+◌, ◌<◌, ◌≤◌, Bool, true, false, cond, ◌⊎◌, List, [], ◌∷◌, ◌++◌, length, take, set, ℤ, is_some, sym, refl, ap, ◌∙◌, subst, inl, inr, add-one, arith, w64, SFits, to_z, of_z, rules}
+use Rattle.std.proofs.Common.{◌≡◌, ℕ, suc, ◌+◌, ◌<◌, ◌≤◌, Bool, cond, List, [], ◌∷◌, ◌++◌, length, take, set, ℤ, is_some, sym, ap, ◌∙◌, subst, add-one, arith, w64, SFits, to_z, of_z, rules}
 use Rattle.std.proofs.lemmas.List.{take_all, length-set, take_more_set}
 use Rattle.std.proofs.lemmas.Int.{to_z-of_z}
 use Rattle.sheet.specs.Contents.{Reading, reading_of}

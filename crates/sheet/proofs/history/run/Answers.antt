@@ -21,7 +21,7 @@ loop-call-preserved g c =
     let ℓ = ledger_of t sa q (take i calls) in
     let a = asked t sa q (get_or calls i (Floor 0 0)) in
     let e = fold_more (λ (l : Ledger) (call : Call). step l (asked t sa q call)) opened calls i (Floor 0 0) c.loop-call-test.true in
-    let st = (carried c.loop-call.sheet c.perform.new.sheet ℓ a c.perform.result c.loop-call.invariant.0 c.perform.ensures).1 in
+    let st = (carried c.loop-call.sheet c.perform.new.sheet ℓ a c.perform.result c.loop-call.invariant.0 c.perform.ensures.answers).1 in
     let x = c.args.rule.now in
     let laws : Laws (g.R.Rule.squared c.args.rule.now) = record { lone = g.met.R.Rule.lone x; scale = g.met.R.Rule.scale x; triangle = g.met.R.Rule.triangle x; rise = g.met.R.Rule.rise x } in
     let f = fair_step ℓ a (fair_asked t sa q (g.met.C.Spectrum.lawful c.args.spectrum.now) c.args.site.now.accepted laws (get_or calls i (Floor 0 0))) c.loop-call.invariant.1 in

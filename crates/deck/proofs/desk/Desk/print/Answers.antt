@@ -1,8 +1,7 @@
-use Rattle.std.proofs.Common.{◌≡◌, ℕ, List, ℤ, sym, refl, ap, ◌∙◌, subst, MatchResult}
+use Rattle.std.proofs.Common.{◌≡◌, ℕ, List, ℤ, ap, ◌∙◌, subst, MatchResult}
 use Rattle.print.specs.Texts.{text_of}
 use Rattle.print.specs.Writing.{Printed, TooShort}
-use Rattle.sheet.specs.Contents.{reading_of}
-use Rattle.deck.specs.Prints.{highest, designs_of, forces_of, sheet_text}
+use Rattle.deck.specs.Prints.{sheet_text}
 use Rattle.deck.proofs.desk.Desk.print.Goals as goal
 
 -- the text of equal figures

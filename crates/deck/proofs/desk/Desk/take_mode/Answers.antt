@@ -1,4 +1,4 @@
-use Rattle.std.proofs.Common.{◌≡◌, ℕ, min, List, [], length, take, ℤ, sym, refl, ap, ◌∙◌, subst, arith, rules}
+use Rattle.std.proofs.Common.{◌≡◌, min, List, [], length, ℤ, ◌∙◌, subst, arith, rules}
 use Rattle.sheet.specs.Ledgers.{mode}
 use Rattle.deck.specs.Books.{ask}
 use Rattle.deck.specs.Desks.{Does}

@@ -18,8 +18,8 @@ use Rattle.sheet.proofs.sheet.Sheet.floor.Goals as goal
 judged : (s : Sheet) (roof h w : ℕ) → roof ≡ roof_of (floors_in s) → verdict (floor_grounds s.table.count roof s.total s.modes.count h w) ≡ verdict (refusals (floors_in s) (modes_in s) (floor h w))
 judged s roof h w e = λ i. verdict (floor_grounds (sym s.held i) (e i) (s.summed i) (sym (modes_length s.table.count s.modes s.modes_held) i) h w)
 
-pub returns-in_err-judge_floor : goal.returns-in_err-judge_floor
-returns-in_err-judge_floor c =
+pub returns-in_err-judge_floor-clause-answers : goal.returns-in_err-judge_floor-clause-answers
+returns-in_err-judge_floor-clause-answers c =
     let p = err_from_is_err_and c.from_residual.result c.from_residual.ensures.1 in
     let v = c.in_err-judge_floor.ensures ∙ judged c.args.self.now c.roof.result c.args.height c.args.weight c.roof.ensures in
     refused c.args.self.now (floor c.args.height c.args.weight) c.from_residual.result p.0 p.1 (ap Err p.2 ∙ v)
@@ -36,8 +36,8 @@ invariant_of-self c =
     let long : length (floors_of c.push.new.self) ≡ c.push.new.self.count = ap length grown-is ∙ length_grown (floors_in s) c.args.height c.args.weight ∙ omega (arith, s.held, n-is) in
     let none = no_modes c.push.new.self.count c.args.self.now.modes t.still in record { few = omega (arith, n-is, t.room); held = long; rising = up; ranged = all; summed = sum; light = t.light; modes_few = s.modes_few; modes_held = s.modes_held; falling = ap (falls_from 4001) none; moving = ap (every (usable c.push.new.self.count)) none; forced = draft_forced c.after.result c.push.new.self.count c.args.self.now.design c.args.self.now.forces c.after.ensures }
 
-pub returns : goal.returns
-returns c =
+pub returns-clause-answers : goal.returns-clause-answers
+returns-clause-answers c =
     let s = c.args.self.now in
     let t = floor_taken c.args.self.now.table.count c.roof.result c.args.self.now.total c.args.self.now.modes.count c.args.height c.args.weight (sym c.in_ok-judge_floor.ensures) in
     let v = c.in_ok-judge_floor.ensures ∙ judged s c.roof.result c.args.height c.args.weight c.roof.ensures in

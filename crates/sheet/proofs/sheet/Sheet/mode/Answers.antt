@@ -51,8 +51,8 @@ module _ (s : Sheet) (m : ModeShape) (reached : Bool) (out : ℕ) (zeros : Bool)
     long_now : length (rows_of modes) ≡ s.modes.count + 1
     long_now = ap length rows ∙ length_push (rows_of s.modes) _ ∙ ap (λ (n : ℕ). n + 1) s.modes_held
 
-pub returns-in_err-judge_mode : goal.returns-in_err-judge_mode
-returns-in_err-judge_mode c =
+pub returns-in_err-judge_mode-clause-answers : goal.returns-in_err-judge_mode-clause-answers
+returns-in_err-judge_mode-clause-answers c =
     let s = c.args.self.now in
     let m = c.args.shape.now in
     let p = err_from_is_err_and c.from_residual.result c.from_residual.ensures.1 in
@@ -70,8 +70,8 @@ invariant_of-self c =
     let moving = usable_now s m c.reaches_down_to-reached.result c.first_outside-outside.result c.is_all_zero-zeros.result c.reaches_down_to-reached.ensures c.first_outside-outside.ensures c.is_all_zero-zeros.ensures t long c.push.new.self c.push.ensures.rows in
     let rows = long_now s m c.reaches_down_to-reached.result c.first_outside-outside.result c.is_all_zero-zeros.result c.reaches_down_to-reached.ensures c.first_outside-outside.ensures c.is_all_zero-zeros.ensures t long c.push.new.self c.push.ensures.rows in record { few = s.few; held = s.held; rising = s.rising; ranged = s.ranged; summed = s.summed; light = s.light; modes_few = omega (arith, t.room, c.push.ensures.count); modes_held = rows ∙ sym c.push.ensures.count; falling = subst (λ (ms : List Mode). falls_from 4001 ms ≡ true) (sym held) falls; moving = subst (λ (ms : List Mode). every (usable c.args.self.now.table.count) ms ≡ true) (sym held) moving; forced = draft_forced c.after.result s.table.count s.design s.forces c.after.ensures }
 
-pub returns : goal.returns
-returns c =
+pub returns-clause-answers : goal.returns-clause-answers
+returns-clause-answers c =
     let s = c.args.self.now in
     let m = c.args.shape.now in
     let long : length c.args.shape.now.ordinates ≡ 40 = search rules in

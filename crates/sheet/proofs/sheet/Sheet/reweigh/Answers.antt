@@ -25,8 +25,8 @@ judge_reweigh-requires c = let s = c.args.self.now in (s.light, omega (arith, c.
 pub overflow_sub-self : goal.overflow_sub-self
 overflow_sub-self c = let s = c.args.self.now in omega (arith, c.weight-old.ensures, weight_within (floors_in s) c.saturating_sub-place.result, s.summed)
 
-pub returns-in_err-judge_reweigh : goal.returns-in_err-judge_reweigh
-returns-in_err-judge_reweigh c =
+pub returns-in_err-judge_reweigh-clause-answers : goal.returns-in_err-judge_reweigh-clause-answers
+returns-in_err-judge_reweigh-clause-answers c =
     let s = c.args.self.now in
     let p = err_from_is_err_and c.from_residual.result c.from_residual.ensures.1 in
     let v = c.in_err-judge_reweigh.ensures ∙ judged s c.saturating_sub-place.result c.weight-old.result c.args.floor c.args.weight c.saturating_sub-place.ensures c.weight-old.ensures in
@@ -52,8 +52,8 @@ invariant_of-self c =
     let sum : c.args.self.now.total - c.weight-old.result + c.args.weight ≡ W (floors_of c.set_weight.new.self) = (λ j. s.summed j - c.weight-old.ensures j + c.args.weight) ∙ sym (ap W is ∙ weight_reweighed (floors_in s) k w l) in
     let long : length (floors_of c.set_weight.new.self) ≡ c.set_weight.new.self.count = ap length is ∙ length_reweighed (floors_in s) k w ∙ s.held ∙ sym n-is in record { few = omega (arith, n-is, s.few); held = long; rising = up; ranged = all; summed = sum; light = t.light; modes_few = s.modes_few; modes_held = s.modes_held; falling = subst (λ (n : ℕ). falls_from 4001 (modes_held_in n c.args.self.now.modes) ≡ true) (sym n-is) s.falling; moving = subst (λ (n : ℕ). every (usable n) (modes_held_in n c.args.self.now.modes) ≡ true) (sym n-is) s.moving; forced = draft_forced c.after.result c.set_weight.new.self.count c.args.self.now.design c.args.self.now.forces c.after.ensures }
 
-pub returns : goal.returns
-returns c =
+pub returns-clause-answers : goal.returns-clause-answers
+returns-clause-answers c =
     let s = c.args.self.now in
     let v = c.in_ok-judge_reweigh.ensures ∙ judged s c.saturating_sub-place.result c.weight-old.result c.args.floor c.args.weight c.saturating_sub-place.ensures c.weight-old.ensures in
     edited s _ (reweigh c.args.floor c.args.weight) v c.after.ensures (c.set_weight.ensures.floors ∙ ap (λ (k : ℕ). reweighed (floors_in s) k c.args.weight) c.saturating_sub-place.ensures) (ap (λ (n : ℕ). modes_held_in n s.modes) c.set_weight.ensures.count) (λ i. refl)

@@ -36,15 +36,15 @@ module _ (s : Sheet) (t : SiteTerms) (sa : ℕ → Fraction) (q : List Response 
     gives : (o : Outcome) → ModalAnswers t sa q fs ms (Ok o) → Gives s.table.count (modal_combined t sa q (counted (floors_in s)) (modes_in s)) (modal_design t sa q (counted (floors_in s)) (modes_in s)) o
     gives o h = subst (λ (n : ℕ). Gives n (modal_combined t sa q (counted (floors_in s)) (modes_in s)) (modal_design t sa q (counted (floors_in s)) (modes_in s)) o) (counted_length (floors_in s) ∙ s.held) (answer (Ok o) h).1
 
-pub returns-then-self-eq0 : goal.returns-then-self-eq0
-returns-then-self-eq0 g c =
+pub returns-then-self-eq0-clause-answers : goal.returns-then-self-eq0-clause-answers
+returns-then-self-eq0-clause-answers g c =
     let s = c.args.self.now in
     let sa = g.C.Spectrum.ordinate c.args.spectrum.now in
     let q = g.R.Rule.squared c.args.rule.now in
     refused s (modal c.args.site.now.terms sa q) (Err (fault NoFloors 0)) (fault NoFloors 0) refl (empty s c.args.site.now.terms sa q (omega arith))
 
-pub returns-in_err-outcome : goal.returns-in_err-outcome
-returns-in_err-outcome g c =
+pub returns-in_err-outcome-clause-answers : goal.returns-in_err-outcome-clause-answers
+returns-in_err-outcome-clause-answers g c =
     let s = c.args.self.now in
     let t = c.args.site.now.terms in
     let sa = g.C.Spectrum.ordinate c.args.spectrum.now in
@@ -62,8 +62,8 @@ invariant_of-self g c =
     let o = gives s t sa q (floors_seen c.shapes_of.result) (modes_seen c.shapes_of.result) c.shapes_of.ensures.floors c.shapes_of.ensures.modes c.in_ok-outcome.outcome c.in_ok-outcome.ensures in
     record { few = s.few; held = s.held; rising = s.rising; ranged = s.ranged; summed = s.summed; light = s.light; modes_few = s.modes_few; modes_held = s.modes_held; falling = s.falling; moving = s.moving; forced = λ _. o.forces }
 
-pub returns : goal.returns
-returns g c =
+pub returns-clause-answers : goal.returns-clause-answers
+returns-clause-answers g c =
     let s = c.args.self.now in
     let t = c.args.site.now.terms in
     let sa = g.C.Spectrum.ordinate c.args.spectrum.now in

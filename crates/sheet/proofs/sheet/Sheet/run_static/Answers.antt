@@ -33,14 +33,14 @@ module _ (s : Sheet) (t : SiteTerms) (sa : ℕ → Fraction) where
     gives : (o : Outcome) → StaticAnswers t sa fs (Ok o) → Gives s.table.count (static_shears_of t sa (counted (floors_in s))) (static_shears_of t sa (counted (floors_in s))) o
     gives o h = subst (λ (n : ℕ). Gives n (static_shears_of t sa (counted (floors_in s))) (static_shears_of t sa (counted (floors_in s))) o) (counted_length (floors_in s) ∙ s.held) (answer (Ok o) h).1
 
-pub returns-then-self-eq0 : goal.returns-then-self-eq0
-returns-then-self-eq0 g c =
+pub returns-then-self-eq0-clause-answers : goal.returns-then-self-eq0-clause-answers
+returns-then-self-eq0-clause-answers g c =
     let s = c.args.self.now in
     let sa = g.C.Spectrum.ordinate c.args.spectrum.now in
     refused s (static c.args.site.now.terms sa) (Err (fault NoFloors 0)) (fault NoFloors 0) refl (empty s c.args.site.now.terms sa (omega arith))
 
-pub returns-in_err-outcome : goal.returns-in_err-outcome
-returns-in_err-outcome g c =
+pub returns-in_err-outcome-clause-answers : goal.returns-in_err-outcome-clause-answers
+returns-in_err-outcome-clause-answers g c =
     let s = c.args.self.now in
     let t = c.args.site.now.terms in
     let sa = g.C.Spectrum.ordinate c.args.spectrum.now in
@@ -56,8 +56,8 @@ invariant_of-self g c =
     let o = gives s t sa (floors_of_loads c.loads_of.result) c.loads_of.ensures.floors c.in_ok-outcome.outcome c.in_ok-outcome.ensures in
     record { few = s.few; held = s.held; rising = s.rising; ranged = s.ranged; summed = s.summed; light = s.light; modes_few = s.modes_few; modes_held = s.modes_held; falling = s.falling; moving = s.moving; forced = λ _. o.forces }
 
-pub returns : goal.returns
-returns g c =
+pub returns-clause-answers : goal.returns-clause-answers
+returns-clause-answers g c =
     let s = c.args.self.now in
     let t = c.args.site.now.terms in
     let sa = g.C.Spectrum.ordinate c.args.spectrum.now in

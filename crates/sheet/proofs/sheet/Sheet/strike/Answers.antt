@@ -28,8 +28,8 @@ struck n t t' k e =
 without_length : (xs : List ModeRow) (k : ℕ) → k < length xs → length (without xs k) + 1 ≡ length xs
 without_length xs k l = omega (arith, length-append (take k xs) (drop (suc k) xs), length-take-le k xs (omega arith), length-drop (suc k) xs)
 
-pub returns-in_err-judge_strike : goal.returns-in_err-judge_strike
-returns-in_err-judge_strike c =
+pub returns-in_err-judge_strike-clause-answers : goal.returns-in_err-judge_strike-clause-answers
+returns-in_err-judge_strike-clause-answers c =
     let s = c.args.self.now in
     let p = err_from_is_err_and c.from_residual.result c.from_residual.ensures.1 in
     refused s (strike c.args.mode) c.from_residual.result p.0 p.1 (ap Err p.2 ∙ c.in_err-judge_strike.ensures ∙ judged s c.args.mode)
@@ -42,7 +42,7 @@ invariant_of-self c =
     let now-held = struck s.table.count s.modes c.remove.new.self (c.args.mode - 1) rows in
     let long : length (rows_of c.remove.new.self) ≡ c.remove.new.self.count = omega (arith, ap length rows, without_length (rows_of s.modes) (c.args.mode - 1) (omega (arith, t.0, t.1, s.modes_held)), s.modes_held, c.remove.ensures.count) in record { few = s.few; held = s.held; rising = s.rising; ranged = s.ranged; summed = s.summed; light = s.light; modes_few = omega (arith, s.modes_few, c.remove.ensures.count); modes_held = long; falling = subst (λ (ms : List Mode). falls_from 4001 ms ≡ true) (sym now-held) (falls_without 4001 (modes_in s) (c.args.mode - 1) s.falling); moving = subst (λ (ms : List Mode). every (usable c.args.self.now.table.count) ms ≡ true) (sym now-held) (every_without (usable s.table.count) (modes_in s) (c.args.mode - 1) s.moving); forced = draft_forced c.after.result s.table.count s.design s.forces c.after.ensures }
 
-pub returns : goal.returns
-returns c =
+pub returns-clause-answers : goal.returns-clause-answers
+returns-clause-answers c =
     let s = c.args.self.now in
     edited s _ (strike c.args.mode) (c.in_ok-judge_strike.ensures ∙ judged s c.args.mode) c.after.ensures refl (struck s.table.count s.modes c.remove.new.self (c.args.mode - 1) c.remove.ensures.rows) (λ i. refl)
