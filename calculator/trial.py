@@ -11,7 +11,7 @@ from pathlib import Path
 
 import calculator
 
-PROGRAM = os.environ.get("JUTESCRAPER") or str(Path(__file__).resolve().parent.parent / "target/bin/jutescraper")
+PROGRAM = os.environ.get("JUTESCRAPER") or str(Path(__file__).resolve().parent.parent / "crates/jutescraper/out/jutescraper")
 PATIENCE = 60                    # seconds after which a program that has not ended is ended
 KEPT = 100                       # so many decks are kept, then only counted
 
@@ -51,7 +51,7 @@ class Trial:
 
     def __init__(self, title):
         if not os.access(PROGRAM, os.X_OK):
-            sys.exit(f"no program at {PROGRAM}: build it (rt check jutescraper) or name another in JUTESCRAPER")
+            sys.exit(f"no program at {PROGRAM}: build it (rt run in crates/jutescraper) or name another in JUTESCRAPER")
         self.title, self.kept = title, None
         self.decks = self.bytes = self.written = self.abnormal = self.differ = 0
         self.refusals, self.ends, self.runs, self.shown = Counter(), Counter(), Counter(), Counter()

@@ -8,6 +8,7 @@ use deck::Desk;
 use print::{LINE, print_refusal};
 use std::io;
 use std::io::{BufReader, BufWriter, Read, Write};
+use std::process::ExitCode;
 
 const RECORD: usize = 96;
 
@@ -69,11 +70,13 @@ fn work(rt: &HostRuntime) -> anyhow::Result<()> {
     print_desk(&mut output, &desk)
 }
 
-// Where reading or writing fails, says so on standard error; the status tells it too.
-fn main(rt: HostRuntime) -> anyhow::Result<()> {
-    let done = work(&rt);
-    if let Err(error) = &done {
-        eprintln!(rt; "jutescraper: {error}")?;
+// Where reading or writing fails, says so on standard error; the status tells it too, also where that line cannot be written.
+fn main(rt: HostRuntime) -> ExitCode {
+    match work(&rt) {
+        Ok(()) => ExitCode::SUCCESS,
+        Err(error) => {
+            let _ = eprintln!(rt; "jutescraper: {error}");
+            ExitCode::FAILURE
+        }
     }
-    done
 }
