@@ -1,3 +1,4 @@
+pub mod Cuts
 pub mod TermsBack
 pub mod Takes
 pub mod FairDeeds

@@ -1,26 +1,12 @@
-use Rattle.std.proofs.Common.{◌≡◌, ℕ, zero, suc, ◌+◌, ◌-◌, ◌*◌, ◌/◌, ◌%◌, ◌<◌, ◌≤◌, min, List, [], ◌∷◌, ◌++◌, length, take, drop, set, fold, sym, refl, ap, ◌∙◌, subst, inl, inr, not-suc-le-zero, add-one, arith}
-use Rattle.std.proofs.lemmas.List.{take_all, length-drop, length_push}
-use Rattle.std.proofs.lemmas.Bool.{cases_lt}
+use Rattle.std.proofs.Common.{◌≡◌, ℕ, zero, suc, ◌+◌, ◌-◌, ◌*◌, ◌/◌, ◌%◌, ◌<◌, ◌≤◌, min, List, [], ◌∷◌, ◌++◌, length, take, drop, set, fold, sym, refl, ap, ◌∙◌, subst, not-suc-le-zero, add-one, arith}
+use Rattle.std.proofs.lemmas.List.{length_push}
 use Rattle.standard.specs.Faults.{Verdict}
 use Rattle.deck.specs.Books.{Book, book_of, verdict_in, enter, blank}
 use Rattle.deck.specs.Decks.{first_records, verdicts_from, verdicts_of, overlaid}
 use Rattle.deck.specs.Desks.{DeskStands}
+use Rattle.deck.proofs.Cuts.{further}
 use Rattle.deck.proofs.answered.answer_deck.Goals as goal
 use Rattle.deck.proofs.answered.answer_deck.Goals.{then-i-answers, else-i-answers}
-
--- the bytes of record i, as the code cuts them
-cut : (bytes : List ℕ) (i end : ℕ) → end ≡ min (length bytes) (96 * i + 96) → take (end - 96 * i) (drop (96 * i) bytes) ≡ take 96 (drop (96 * i) bytes)
-cut bytes i end e =
-    elim (cases_lt (length bytes) (96 * i + 96)) [
-      | inl l ↦ take_all (end - 96 * i) (drop (96 * i) bytes) (omega (arith, length-drop (96 * i) bytes)) ∙ sym (take_all 96 (drop (96 * i) bytes) (omega (arith, length-drop (96 * i) bytes)))
-      | inr l ↦ (let k : end - 96 * i ≡ 96 = omega arith in ap (λ (n : ℕ). take n (drop (96 * i) bytes)) k)
-    ]
-
--- one record more
-further : (bytes : List ℕ) (i end : ℕ) → end ≡ min (length bytes) (96 * i + 96) → first_records i bytes ++ (take (end - 96 * i) (drop (96 * i) bytes) ∷ []) ≡ first_records (i + 1) bytes
-further bytes i end e =
-    ap (λ (cards : List ℕ). first_records i bytes ++ (cards ∷ [])) (cut bytes i end e) ∙
-    sym (ap (λ (n : ℕ). first_records n bytes) (add-one i))
 
 -- the answer to one record more
 verdicts_push : (b : Book) (records : List (List ℕ)) (bytes : List ℕ) → verdicts_from b (records ++ (bytes ∷ [])) ≡ verdicts_from b records ++ (verdict_in (fold enter b records) bytes ∷ [])
