@@ -1,22 +1,10 @@
 -- Newton's steps to a whole root. Assumes nothing.
-use Rattle.std.proofs.Common.{◌≡◌, ℕ, ◌+◌, ◌-◌, ◌*◌, ◌/◌, ◌%◌, ◌^◌, ◌<◌, ◌≤◌, ap, ◌∙◌, inl, inr, mod-eq_of_lt, mul-le-mul_left, one-mul, arith}
+use Rattle.std.proofs.Common.{◌≡◌, ℕ, ◌+◌, ◌*◌, ◌/◌, ◌%◌, ◌^◌, ◌<◌, ◌≤◌, ap, ◌∙◌, inl, inr, mod-eq_of_lt, mul-le-mul_left, one-mul, arith}
 use native.Mathlib.Nat.{mul-div-le, lt-mul-div-succ, div-le_of_le-mul}
-use Rattle.std.proofs.lemmas.Nat.{pow-add, pow_below, pow_pos}
+use Rattle.std.proofs.lemmas.Nat.{pow-add, pow_pos}
+use Rattle.std.proofs.Math.Pow.{pow_mono}
 use Rattle.std.proofs.lemmas.Bool.{cases_lt}
-use Rattle.rounding.proofs.Order.{sq_mono}
-
--- four times a product is at most the square of the sum
-four_times : (a b : ℕ) → 4 * (a * b) ≤ (a + b) * (a + b)
-four_times a b = elim (cases_lt a b) [ inl l ↦ rises a (b - a) b (omega arith) | inr l ↦ falls b (a - b) a (omega arith) ]
-  where
-    rises : (a k b : ℕ) → b ≡ a + k → 4 * (a * b) ≤ (a + b) * (a + b)
-    rises a k b e = rw e (omega arith)
-
-    falls : (b k a : ℕ) → a ≡ b + k → 4 * (a * b) ≤ (a + b) * (a + b)
-    falls b k a e = rw e (omega arith)
-
-pow_le : (i j : ℕ) → i ≤ j → 2 ^ i ≤ 2 ^ j
-pow_le i j l = elim (cases_lt i j) [ inl h ↦ omega (arith, pow_below i j h) | inr h ↦ (let e : i ≡ j = omega arith in rw e (omega arith)) ]
+use Rattle.rounding.proofs.Order.{sq_mono, four_mul_le}
 
 -- ---- one step from any x
 
@@ -25,7 +13,7 @@ module _ (q x : ℕ) (some : 1 ≤ x) where
   pub step_above : q < ((x + q / x) / 2 + 1) * ((x + q / x) / 2 + 1)
   step_above =
       let a : q < x * (q / x + 1) = lt-mul-div-succ q some in
-      let b = four_times x (q / x + 1) in
+      let b = four_mul_le x (q / x + 1) in
       let h : x + (q / x + 1) ≤ 2 * ((x + q / x) / 2 + 1) = omega arith in
       let s : (x + (q / x + 1)) * (x + (q / x + 1)) ≤ 2 * ((x + q / x) / 2 + 1) * (2 * ((x + q / x) / 2 + 1)) = sq_mono h in
       far ((x + q / x) / 2 + 1) (x * (q / x + 1)) ((x + (q / x + 1)) * (x + (q / x + 1))) a b s
@@ -59,7 +47,7 @@ module _ (q x : ℕ) (some : 1 ≤ x) where
 
 module _ (q k : ℕ) (small : k < 64) (low : q < 2 * 2 ^ k) where
   near : 2 ^ ((k + 1) / 2) ≤ 2 ^ 32
-  near = pow_le ((k + 1) / 2) 32 (omega arith)
+  near = pow_mono {i = (k + 1) / 2} {j = 32} (omega arith)
 
   -- k + 1 is twice its half, or one more
   over : q / 2 ^ ((k + 1) / 2) ≤ 2 ^ 32
@@ -70,7 +58,7 @@ module _ (q k : ℕ) (small : k < 64) (low : q < 2 * 2 ^ k) where
             omega (arith, b, near))
         | inr l ↦ (let e : k ≡ (k + 1) / 2 + (k + 1) / 2 = omega arith in
             let b = div-le_of_le-mul (2 ^ ((k + 1) / 2)) {m = q} {n = 2 * 2 ^ ((k + 1) / 2)} (omega (arith, ap (λ (n : ℕ). 2 ^ n) e, pow-add 2 ((k + 1) / 2) ((k + 1) / 2))) in
-            omega (arith, b, pow_le ((k + 1) / 2) 31 (omega arith)))
+            omega (arith, b, pow_mono {i = (k + 1) / 2} {j = 31} (omega arith)))
       ]
 
   -- the power as a shift has it
@@ -87,3 +75,6 @@ module _ (q k : ℕ) (small : k < 64) (low : q < 2 * 2 ^ k) where
 
   pub first_step : 1 ≤ q → (1 ≤ (1 * 2 ^ ((k + 1) / 2) % 2 ^ 64 + q / 2 ^ ((k + 1) / 2)) / 2) × ((1 * 2 ^ ((k + 1) / 2) % 2 ^ 64 + q / 2 ^ ((k + 1) / 2)) / 2 ≤ 2 ^ 32) × (q < ((1 * 2 ^ ((k + 1) / 2) % 2 ^ 64 + q / 2 ^ ((k + 1) / 2)) / 2 + 1) * ((1 * 2 ^ ((k + 1) / 2) % 2 ^ 64 + q / 2 ^ ((k + 1) / 2)) / 2 + 1))
   first_step some = from (1 * 2 ^ ((k + 1) / 2) % 2 ^ 64) shifted some
+
+-- what a first step and the steps after it owe
+pub ruleset steps = (first_fits, first_step, quotient_small, step_above, step_last, step_some)

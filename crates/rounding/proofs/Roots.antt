@@ -31,5 +31,17 @@ near_square v = let h : 2 * v - 1 ≤ 2 * v = omega arith in record { low = omeg
 pub only : (r q : ℕ) → NearestRoot r q → r ≡ root q
 only r q h = omega (arith, same r (root q) q h (near q), same (root q) r q (near q) h)
 
+-- the root rounded down, and what is left of q, tell the nearest
+pub root_above : (f q : ℕ) → q < (f + 1) * (f + 1) → f < q - f * f → root q ≡ f + 1
+root_above f q h l = let e : 2 * (f + 1) - 1 ≡ 2 * f + 1 = omega arith in sym (only (f + 1) q (record { low = rw e (omega arith); high = omega arith }))
+
+pub root_below : (f q : ℕ) → f * f ≤ q → q - f * f ≤ f → root q ≡ f
+root_below f q h l = let e : 2 * f - 1 ≤ 2 * f = omega arith in sym (only f q (record { low = omega (arith, sq_mono e); high = omega arith }))
+
+pub root_zero : (q : ℕ) → q ≡ 0 → root q ≡ 0
+root_zero q e = root_below 0 q (omega arith) (omega arith)
+
+pub ruleset rest_tells = (root_above, root_below, root_zero)
+
 pub root_laws : RootLaws
 root_laws = record { near = near; only = only; whole = λ v. sym (only v (v * v) (near_square v)) }

@@ -3,7 +3,7 @@ ghost use Rattle.std.specs.Prelude.{◌≡◌, ◌^◌, ◌<◌};
 ghost use Rattle.rounding.specs.Rounding.{nearest, nearestℤ};
 
 // What a number can be divided by: from 1 to the largest i64, so that it serves signed numbers too.
-#[derive(Clone, Copy)]
+#[derive(Clone, Copy, PartialEq, Eq, Debug)]
 pub struct Divisor {
     pub value: u64,
     ghost positive: { 0 < value },
@@ -11,6 +11,7 @@ pub struct Divisor {
 }
 
 // The whole number nearest to `n` over the divisor, a half going up.
+#[tactic(auto, using(crate::proofs::Rounding::nearest_up, crate::proofs::Rounding::nearest_down))]
 pub fn nearest_quotient(n: u64, divisor: Divisor) -> u64
     ensures { result ≡ nearest n divisor.value }
 {

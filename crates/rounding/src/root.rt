@@ -3,6 +3,7 @@ ghost use Rattle.std.specs.Prelude.{◌≡◌, ◌+◌, ◌*◌, ◌<◌, ◌≤
 ghost use Rattle.rounding.specs.Roots.{root};
 
 // The root of a number above 0, rounded down: Newton's steps fall to it from above.
+#[tactic(auto, using(crate::proofs::Newton::steps))]
 fn whole_root(q: u64) -> u64
     requires { 0 < q }
     ensures low { result * result ≤ q }
@@ -21,6 +22,7 @@ fn whole_root(q: u64) -> u64
 }
 
 // The whole number nearest to the square root of `q`.
+#[tactic(auto, using(crate::proofs::Roots::rest_tells))]
 pub fn nearest_root(q: u64) -> u64
     ensures { result ≡ root q }
 {
