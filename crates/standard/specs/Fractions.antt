@@ -23,9 +23,3 @@ pub record LowestTerms (f r : Fraction) : Type 0 where
   pub same : Same r f
   pub lowest : 0 < f.denominator → (0 < r.denominator) × Coprime r.numerator r.denominator
   pub kept : f.denominator ≡ 0 → r ≡ f
-
--- g divides both m and n, and all that divides both divides it
-pub record GreatestCommonDivisor (m n g : ℕ) : Type 0 where
-  pub left : g ∣ m
-  pub right : g ∣ n
-  pub greatest : (k : ℕ) → k ∣ m → k ∣ n → k ∣ g

@@ -1,5 +1,5 @@
 -- The values of a site: which are listed, what each stands for, and the numbers that the standard gives it.
-use Rattle.std.specs.Prelude.{ℕ, Bool, cond, not, ◌&&◌, ◌||◌, List, [], ◌∷◌, ◌==◌, nat_le}
+use Rattle.std.specs.Prelude.{◌≡◌, ℕ, Bool, true, false, Ok, Err, Result, cond, not, ◌&&◌, ◌||◌, List, [], ◌∷◌, ◌==◌, nat_le}
 use Rattle.standard.specs.declared.fault.Ground.TheVariants.{SiteValue}
 use Rattle.standard.specs.declared.terms.Zone.{Zone}
 use Rattle.standard.specs.declared.terms.Zone.TheVariants.{II, III, IV, V}
@@ -13,6 +13,7 @@ use Rattle.standard.specs.declared.terms.Formula.{Formula}
 use Rattle.standard.specs.declared.terms.Formula.TheVariants.{ConcreteFrame, SteelFrame, Other}
 use Rattle.standard.specs.declared.terms.Plan.{Plan}
 use Rattle.standard.specs.declared.terms.Plan.TheVariants.{Regular, Irregular}
+use Rattle.standard.specs.declared.terms.Unlisted.{Unlisted}
 use Rattle.standard.specs.declared.terms.SiteTerms.{SiteTerms}
 use Rattle.standard.specs.declared.values.SiteValues.{SiteValues}
 use Rattle.standard.specs.Faults.{Refusal, refusal}
@@ -91,6 +92,18 @@ formula_base (Other base) = base
 abbrev pub plan_value : Plan → ℕ
 plan_value Regular = 0
 plan_value Irregular = 1
+
+-- ---- how a value is read
+
+-- the term that has the value, where it is listed; else the error that names it
+abbrev pub Reads : {X : Type 0} → (ℕ → Bool) → (X → ℕ) → ℕ → Result X Unlisted → Type 0
+Reads listed value n (Ok x) = (listed n ≡ true) × (value x ≡ n)
+Reads listed value n (Err e) = (listed n ≡ false) × (e.0 ≡ n)
+
+-- the formula that has the value, and the base dimension where it has one
+abbrev pub ReadsFormula : ℕ × ℕ → Result Formula Unlisted → Type 0
+ReadsFormula p (Ok f) = Reads formula_listed formula_value p.0 (Ok f) × (p.0 ≡ 3 → formula_base f ≡ p.1)
+ReadsFormula p (Err e) = Reads formula_listed formula_value p.0 (Err e)
 
 -- the seven values of a site's terms
 abbrev pub values_of : SiteTerms → SiteValues

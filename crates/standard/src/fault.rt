@@ -1,35 +1,35 @@
 // Why a record or a call is refused.
 ghost use Rattle.std.specs.Prelude.{◌≡◌};
-ghost use Rattle.standard.specs.Faults.{number_of, layer_of};
+ghost use Rattle.standard.specs.Faults.{number_of, layer_of, fault};
 
 // One ground for each refusal of the whole product.
 #[derive(Clone, Copy, PartialEq, Eq, Debug)]
 pub enum Ground {
-    ShortRecord,
-    UnknownLetter,
-    UnusedByte,
-    SiteOrder,
-    SiteValue,
-    FloorHeight,
-    FloorWeight,
-    TotalWeight,
-    TooManyFloors,
-    NoSuchFloor,
-    ModesEntered,
-    OrdinateCount,
-    ModePeriod,
-    OrdinateRange,
-    OrdinatesAllZero,
-    TooManyModes,
-    NoSuchMode,
-    SiteCurveStep,
-    NoFloors,
-    PeriodTooLong,
-    TooHighForStatic,
-    ModalWeightShort,
-    NoCombinedShear,
-    NoSuchRule,
-    PrintBuffer,
+    ShortRecord = 1,
+    UnknownLetter = 2,
+    UnusedByte = 3,
+    SiteOrder = 4,
+    SiteValue = 5,
+    FloorHeight = 6,
+    FloorWeight = 7,
+    TotalWeight = 8,
+    TooManyFloors = 9,
+    NoSuchFloor = 10,
+    ModesEntered = 11,
+    OrdinateCount = 12,
+    ModePeriod = 13,
+    OrdinateRange = 14,
+    OrdinatesAllZero = 15,
+    TooManyModes = 16,
+    NoSuchMode = 17,
+    SiteCurveStep = 18,
+    NoFloors = 19,
+    PeriodTooLong = 20,
+    TooHighForStatic = 21,
+    ModalWeightShort = 22,
+    NoCombinedShear = 23,
+    NoSuchRule = 24,
+    PrintBuffer = 25,
 }
 
 // Where a refusal comes from.
@@ -52,43 +52,49 @@ impl Ground {
     pub fn number(self) -> u8
         ensures { result ≡ number_of self }
     {
-        match self {
-            Ground::ShortRecord => 1,
-            Ground::UnknownLetter => 2,
-            Ground::UnusedByte => 3,
-            Ground::SiteOrder => 4,
-            Ground::SiteValue => 5,
-            Ground::FloorHeight => 6,
-            Ground::FloorWeight => 7,
-            Ground::TotalWeight => 8,
-            Ground::TooManyFloors => 9,
-            Ground::NoSuchFloor => 10,
-            Ground::ModesEntered => 11,
-            Ground::OrdinateCount => 12,
-            Ground::ModePeriod => 13,
-            Ground::OrdinateRange => 14,
-            Ground::OrdinatesAllZero => 15,
-            Ground::TooManyModes => 16,
-            Ground::NoSuchMode => 17,
-            Ground::SiteCurveStep => 18,
-            Ground::NoFloors => 19,
-            Ground::PeriodTooLong => 20,
-            Ground::TooHighForStatic => 21,
-            Ground::ModalWeightShort => 22,
-            Ground::NoCombinedShear => 23,
-            Ground::NoSuchRule => 24,
-            Ground::PrintBuffer => 25,
-        }
+        self as u8
     }
 
     // The layer that gives it.
     pub fn layer(self) -> Layer
         ensures { result ≡ layer_of self }
     {
-        match self.number() {
-            1..=5 | 24 | 25 => Layer::Record,
-            6..=17 => Layer::Sheet,
-            _ => Layer::Method,
+        match self {
+            Ground::ShortRecord
+            | Ground::UnknownLetter
+            | Ground::UnusedByte
+            | Ground::SiteOrder
+            | Ground::SiteValue
+            | Ground::NoSuchRule
+            | Ground::PrintBuffer => Layer::Record,
+            Ground::FloorHeight
+            | Ground::FloorWeight
+            | Ground::TotalWeight
+            | Ground::TooManyFloors
+            | Ground::NoSuchFloor
+            | Ground::ModesEntered
+            | Ground::OrdinateCount
+            | Ground::ModePeriod
+            | Ground::OrdinateRange
+            | Ground::OrdinatesAllZero
+            | Ground::TooManyModes
+            | Ground::NoSuchMode => Layer::Sheet,
+            Ground::SiteCurveStep
+            | Ground::NoFloors
+            | Ground::PeriodTooLong
+            | Ground::TooHighForStatic
+            | Ground::ModalWeightShort
+            | Ground::NoCombinedShear => Layer::Method,
+        }
+    }
+
+    // A refusal on this ground, naming a place.
+    pub fn at(self, place: u32) -> Fault
+        ensures { result ≡ fault self place }
+    {
+        Fault {
+            ground: self,
+            place,
         }
     }
 }

@@ -1,7 +1,9 @@
 // Fractions of whole numbers.
 ghost use Rattle.std.specs.Prelude.{◌≡◌, ◌*◌};
-ghost use Rattle.standard.specs.Fractions.{less, LowestTerms, GreatestCommonDivisor};
+ghost use Rattle.std.specs.Int.{IsGcd};
+ghost use Rattle.standard.specs.Fractions.{less, LowestTerms};
 
+// A fraction of whole numbers, as it was made: not always in lowest terms.
 #[derive(Clone, Copy, PartialEq, Eq, Debug)]
 pub struct Fraction {
     pub numerator: u32,
@@ -10,6 +12,7 @@ pub struct Fraction {
 
 impl Fraction {
     // Whether this is below another, by multiplying across.
+    // There is no `PartialOrd`: `==` compares the parts, and tells 1/2 from 2/4.
     pub fn is_less(self, other: Fraction) -> bool
         ensures { result ≡ less self other }
     {
@@ -35,7 +38,7 @@ impl Fraction {
 
 // The greatest number that divides both; 0 where both are 0.
 fn greatest_common_divisor(a: u32, b: u32) -> u32
-    ensures { GreatestCommonDivisor a b result }
+    ensures { IsGcd a b result }
 {
     let mut greater = a;
     let mut lesser = b;

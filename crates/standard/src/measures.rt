@@ -1,45 +1,31 @@
 // Measures that carry their range.
-ghost use Rattle.std.specs.Prelude.{◌≡◌, ◌≤◌, true, false, Some, None};
+ghost use Rattle.std.specs.Prelude.{◌≡◌, ◌≤◌, false, Some, None};
 ghost use Rattle.standard.specs.Sites.{within};
 
-// A period of 1 to 4000 milliseconds, for which every spectrum has an ordinate.
-#[derive(Clone, Copy)]
-pub struct Period {
-    pub milliseconds: u16,
-    ghost some: { 1 ≤ milliseconds },
-    ghost few: { milliseconds ≤ 4000 },
+// A whole number of units from LOW to HIGH.
+#[derive(Clone, Copy, PartialEq, Eq, Debug)]
+pub struct Measure<const LOW: u16, const HIGH: u16> {
+    pub value: u16,
+    ghost low: { LOW ≤ value },
+    ghost high: { value ≤ HIGH },
 }
 
-impl Period {
-    // A period of so many milliseconds, where they are within its range.
-    pub fn new(milliseconds: u32) -> Option<Period>
-        ensures { elim result [ None ↦ within 1 4000 milliseconds ≡ false | Some p ↦ p.milliseconds ≡ milliseconds ] }
+// A period in milliseconds, for which every spectrum has an ordinate.
+pub type Period = Measure<1, 4000>;
+
+// A height above the base, in decimetres.
+pub type Height = Measure<20, 2000>;
+
+impl<const LOW: u16, const HIGH: u16> Measure<LOW, HIGH> {
+    // The measure of so many units, where they are within its range.
+    pub fn new(value: u32) -> Option<Self>
+        ensures { elim result [ None ↦ within LOW HIGH value ≡ false | Some m ↦ m.value ≡ value ] }
     {
-        if milliseconds < 1 || milliseconds > 4000 {
+        if !(LOW as u32..=HIGH as u32).contains(&value) {
             return None;
         }
-        Some(Period {
-            milliseconds: milliseconds as u16,
+        Some(Measure {
+            value: value as u16,
         })
-    }
-}
-
-// A height above the base of 20 to 2000 decimetres.
-#[derive(Clone, Copy)]
-pub struct Height {
-    pub decimetres: u16,
-    ghost low: { 20 ≤ decimetres },
-    ghost high: { decimetres ≤ 2000 },
-}
-
-impl Height {
-    // A height of so many decimetres, where they are within its range.
-    pub fn new(decimetres: u16) -> Option<Height>
-        ensures { elim result [ None ↦ within 20 2000 decimetres ≡ false | Some h ↦ h.decimetres ≡ decimetres ] }
-    {
-        if decimetres < 20 || decimetres > 2000 {
-            return None;
-        }
-        Some(Height { decimetres })
     }
 }

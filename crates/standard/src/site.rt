@@ -7,7 +7,7 @@ use crate::terms::SiteTerms;
 mod accept;
 
 // A site that exists is one whose values are all listed and within range.
-#[derive(Clone, Copy)]
+#[derive(Clone, Copy, PartialEq, Eq, Debug)]
 pub struct Site {
     pub terms: SiteTerms,
     ghost accepted: { lawful terms ≡ true },

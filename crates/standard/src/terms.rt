@@ -1,10 +1,13 @@
 // What a site says of a building, term by term.
-ghost use Rattle.std.specs.Prelude.{◌≡◌, true, false, Some, None};
-ghost use Rattle.standard.specs.Sites.{zone_value, zone_number, zone_listed, soil_value, soil_listed, importance_value, importance_listed};
-ghost use Rattle.standard.specs.Sites.{system_value, system_listed, reduction, plan_value, plan_listed, formula_value, formula_base, formula_listed};
+ghost use Rattle.std.specs.Prelude.{◌≡◌};
+ghost use Rattle.standard.specs.Sites.{Reads, ReadsFormula, zone_value, zone_number, zone_listed, soil_value, soil_listed};
+ghost use Rattle.standard.specs.Sites.{importance_value, importance_listed, system_value, system_listed, reduction, plan_value, plan_listed};
+
+use std::error::Error;
+use std::fmt;
 
 // The seismic zones.
-#[derive(Clone, Copy)]
+#[derive(Clone, Copy, PartialEq, Eq, Debug)]
 pub enum Zone {
     II,
     III,
@@ -12,21 +15,21 @@ pub enum Zone {
     V,
 }
 
-#[derive(Clone, Copy)]
+#[derive(Clone, Copy, PartialEq, Eq, Debug)]
 pub enum Soil {
     Hard,
     Medium,
     Soft,
 }
 
-#[derive(Clone, Copy)]
+#[derive(Clone, Copy, PartialEq, Eq, Debug)]
 pub enum Importance {
-    Ordinary,
-    Important,
+    Ordinary = 10,
+    Important = 15,
 }
 
 // What resists the shaking.
-#[derive(Clone, Copy)]
+#[derive(Clone, Copy, PartialEq, Eq, Debug)]
 pub enum System {
     OrdinaryConcreteFrame,
     SpecialConcreteFrame,
@@ -44,21 +47,21 @@ pub enum System {
 }
 
 // How the period follows from the height: a bare frame, or any other building by its base dimension.
-#[derive(Clone, Copy)]
+#[derive(Clone, Copy, PartialEq, Eq, Debug)]
 pub enum Formula {
     ConcreteFrame,
     SteelFrame,
     Other { base: u16 },
 }
 
-#[derive(Clone, Copy)]
+#[derive(Clone, Copy, PartialEq, Eq, Debug)]
 pub enum Plan {
     Regular,
     Irregular,
 }
 
 // The terms of a site.
-#[derive(Clone, Copy)]
+#[derive(Clone, Copy, PartialEq, Eq, Debug)]
 pub struct SiteTerms {
     pub zone: Zone,
     pub soil: Soil,
@@ -68,19 +71,40 @@ pub struct SiteTerms {
     pub plan: Plan,
 }
 
-impl Zone {
-    pub fn from_value(value: u8) -> Option<Zone>
-        ensures { elim result [ None ↦ zone_listed value ≡ false | Some z ↦ (zone_listed value ≡ true) × (zone_value z ≡ value) ] }
-    {
+// A value that is not on the list of its term.
+#[derive(Clone, Copy, PartialEq, Eq, Debug)]
+pub struct Unlisted(pub u8);
+
+impl fmt::Display for Unlisted {
+    ghost use Rattle.std.specs.Prelude.{◌++◌, Some, codes};
+    ghost use Rattle.std.specs.Fmt.{decimal};
+
+    ghost output = { λ e. Some (codes "the value " ++ (decimal e.0 ++ codes " is not listed")) };
+
+    fn fmt<W: fmt::Write>(&self, f: &mut fmt::Formatter<W>) -> fmt::Result {
+        write!(f, "the value {} is not listed", self.0)
+    }
+}
+
+impl Error for Unlisted {}
+
+impl TryFrom<u8> for Zone {
+    type Error = Unlisted;
+
+    ghost try_from_gives = { Reads zone_listed zone_value };
+
+    fn try_from(value: u8) -> Result<Self, Unlisted> {
         match value {
-            2 => Some(Zone::II),
-            3 => Some(Zone::III),
-            4 => Some(Zone::IV),
-            5 => Some(Zone::V),
-            _ => None,
+            2 => Ok(Zone::II),
+            3 => Ok(Zone::III),
+            4 => Ok(Zone::IV),
+            5 => Ok(Zone::V),
+            _ => Err(Unlisted(value)),
         }
     }
+}
 
+impl Zone {
     // A hundred times the zone factor.
     pub fn number(self) -> u32
         ensures { result ≡ zone_number self }
@@ -94,63 +118,70 @@ impl Zone {
     }
 }
 
-impl Soil {
-    pub fn from_value(value: u8) -> Option<Soil>
-        ensures { elim result [ None ↦ soil_listed value ≡ false | Some s ↦ (soil_listed value ≡ true) × (soil_value s ≡ value) ] }
-    {
+impl TryFrom<u8> for Soil {
+    type Error = Unlisted;
+
+    ghost try_from_gives = { Reads soil_listed soil_value };
+
+    fn try_from(value: u8) -> Result<Self, Unlisted> {
         match value {
-            1 => Some(Soil::Hard),
-            2 => Some(Soil::Medium),
-            3 => Some(Soil::Soft),
-            _ => None,
+            1 => Ok(Soil::Hard),
+            2 => Ok(Soil::Medium),
+            3 => Ok(Soil::Soft),
+            _ => Err(Unlisted(value)),
+        }
+    }
+}
+
+impl TryFrom<u8> for Importance {
+    type Error = Unlisted;
+
+    ghost try_from_gives = { Reads importance_listed importance_value };
+
+    fn try_from(value: u8) -> Result<Self, Unlisted> {
+        match value {
+            10 => Ok(Importance::Ordinary),
+            15 => Ok(Importance::Important),
+            _ => Err(Unlisted(value)),
         }
     }
 }
 
 impl Importance {
-    pub fn from_value(value: u8) -> Option<Importance>
-        ensures { elim result [ None ↦ importance_listed value ≡ false | Some i ↦ (importance_listed value ≡ true) × (importance_value i ≡ value) ] }
-    {
-        match value {
-            10 => Some(Importance::Ordinary),
-            15 => Some(Importance::Important),
-            _ => None,
-        }
-    }
-
     // Ten times the importance factor.
     pub fn number(self) -> u32
         ensures { result ≡ importance_value self }
     {
-        match self {
-            Importance::Ordinary => 10,
-            Importance::Important => 15,
+        self as u32
+    }
+}
+
+impl TryFrom<u8> for System {
+    type Error = Unlisted;
+
+    ghost try_from_gives = { Reads system_listed system_value };
+
+    fn try_from(value: u8) -> Result<Self, Unlisted> {
+        match value {
+            1 => Ok(System::OrdinaryConcreteFrame),
+            2 => Ok(System::SpecialConcreteFrame),
+            3 => Ok(System::ConcentricBraces),
+            4 => Ok(System::EccentricBraces),
+            5 => Ok(System::PlainMasonry),
+            6 => Ok(System::BandedMasonry),
+            7 => Ok(System::BarredMasonry),
+            8 => Ok(System::OrdinaryWall),
+            9 => Ok(System::DuctileWall),
+            10 => Ok(System::OrdinaryWallOrdinaryFrame),
+            11 => Ok(System::OrdinaryWallSpecialFrame),
+            12 => Ok(System::DuctileWallOrdinaryFrame),
+            13 => Ok(System::DuctileWallSpecialFrame),
+            _ => Err(Unlisted(value)),
         }
     }
 }
 
 impl System {
-    pub fn from_value(value: u8) -> Option<System>
-        ensures { elim result [ None ↦ system_listed value ≡ false | Some s ↦ (system_listed value ≡ true) × (system_value s ≡ value) ] }
-    {
-        match value {
-            1 => Some(System::OrdinaryConcreteFrame),
-            2 => Some(System::SpecialConcreteFrame),
-            3 => Some(System::ConcentricBraces),
-            4 => Some(System::EccentricBraces),
-            5 => Some(System::PlainMasonry),
-            6 => Some(System::BandedMasonry),
-            7 => Some(System::BarredMasonry),
-            8 => Some(System::OrdinaryWall),
-            9 => Some(System::DuctileWall),
-            10 => Some(System::OrdinaryWallOrdinaryFrame),
-            11 => Some(System::OrdinaryWallSpecialFrame),
-            12 => Some(System::DuctileWallOrdinaryFrame),
-            13 => Some(System::DuctileWallSpecialFrame),
-            _ => None,
-        }
-    }
-
     // Ten times the response reduction factor.
     pub fn reduction_number(self) -> u32
         ensures { result ≡ reduction self }
@@ -173,28 +204,32 @@ impl System {
     }
 }
 
-impl Formula {
-    // The formula of a number, with the base dimension that goes with it, whatever that is.
-    pub fn from_value(value: u8, base: u16) -> Option<Formula>
-        ensures { elim result [ None ↦ formula_listed value ≡ false | Some f ↦ (formula_listed value ≡ true) × (formula_value f ≡ value) × (value ≡ 3 → formula_base f ≡ base) ] }
-    {
+// The formula of a number, with the base dimension that goes with it, whatever that is.
+impl TryFrom<(u8, u16)> for Formula {
+    type Error = Unlisted;
+
+    ghost try_from_gives = { ReadsFormula };
+
+    fn try_from((value, base): (u8, u16)) -> Result<Self, Unlisted> {
         match value {
-            1 => Some(Formula::ConcreteFrame),
-            2 => Some(Formula::SteelFrame),
-            3 => Some(Formula::Other { base }),
-            _ => None,
+            1 => Ok(Formula::ConcreteFrame),
+            2 => Ok(Formula::SteelFrame),
+            3 => Ok(Formula::Other { base }),
+            _ => Err(Unlisted(value)),
         }
     }
 }
 
-impl Plan {
-    pub fn from_value(value: u8) -> Option<Plan>
-        ensures { elim result [ None ↦ plan_listed value ≡ false | Some p ↦ (plan_listed value ≡ true) × (plan_value p ≡ value) ] }
-    {
+impl TryFrom<u8> for Plan {
+    type Error = Unlisted;
+
+    ghost try_from_gives = { Reads plan_listed plan_value };
+
+    fn try_from(value: u8) -> Result<Self, Unlisted> {
         match value {
-            0 => Some(Plan::Regular),
-            1 => Some(Plan::Irregular),
-            _ => None,
+            0 => Ok(Plan::Regular),
+            1 => Ok(Plan::Irregular),
+            _ => Err(Unlisted(value)),
         }
     }
 }

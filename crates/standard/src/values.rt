@@ -1,5 +1,5 @@
 // The seven values of a site as they are handed in, in the order in which they are looked at.
-#[derive(Clone, Copy)]
+#[derive(Clone, Copy, PartialEq, Eq, Debug)]
 pub struct SiteValues {
     pub zone: u8,
     pub soil: u8,

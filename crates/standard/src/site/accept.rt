@@ -1,6 +1,6 @@
 ghost use Rattle.std.specs.Prelude.{◌≡◌, Ok, Err};
-ghost use Rattle.standard.specs.Faults.{verdict, fault};
-ghost use Rattle.standard.specs.Sites.{site_refusals, values_of, base_listed};
+ghost use Rattle.standard.specs.Faults.{verdict};
+ghost use Rattle.standard.specs.Sites.{site_refusals, values_of, base_listed, formula_value};
 
 use super::Site;
 use crate::fault::{Fault, Ground};
@@ -12,14 +12,15 @@ impl Site {
     pub fn accept(values: &SiteValues) -> Result<Site, Fault>
         ensures { elim result [ Ok s ↦ (verdict (site_refusals values.now) ≡ Ok tt) × (values_of s.terms ≡ values.now) | Err f ↦ verdict (site_refusals values.now) ≡ Err f ] }
     {
-        let zone = Zone::from_value(values.zone).ok_or(bad_value(1))?;
-        let soil = Soil::from_value(values.soil).ok_or(bad_value(2))?;
-        let importance = Importance::from_value(values.importance).ok_or(bad_value(3))?;
-        let system = System::from_value(values.system).ok_or(bad_value(4))?;
-        let formula = Formula::from_value(values.formula, values.base).ok_or(bad_value(5))?;
-        let plan = Plan::from_value(values.plan).ok_or(bad_value(6))?;
-        if !base_goes(values.formula, values.base) {
-            return Err(bad_value(7));
+        let ground = Ground::SiteValue;
+        let zone = Zone::try_from(values.zone).map_err(|_| ground.at(1))?;
+        let soil = Soil::try_from(values.soil).map_err(|_| ground.at(2))?;
+        let importance = Importance::try_from(values.importance).map_err(|_| ground.at(3))?;
+        let system = System::try_from(values.system).map_err(|_| ground.at(4))?;
+        let formula = Formula::try_from((values.formula, values.base)).map_err(|_| ground.at(5))?;
+        let plan = Plan::try_from(values.plan).map_err(|_| ground.at(6))?;
+        if !base_goes(formula, values.base) {
+            return Err(ground.at(7));
         }
         Ok(Site {
             terms: SiteTerms {
@@ -34,22 +35,12 @@ impl Site {
     }
 }
 
-fn bad_value(place: u32) -> Fault
-    ensures { result ≡ fault Ground.SiteValue place }
-{
-    Fault {
-        ground: Ground::SiteValue,
-        place,
-    }
-}
-
 // Whether the base dimension is one that goes with the formula.
-fn base_goes(formula: u8, base: u16) -> bool
-    ensures { result ≡ base_listed formula base }
+fn base_goes(formula: Formula, base: u16) -> bool
+    ensures { result ≡ base_listed (formula_value formula) base }
 {
-    if formula == 3 {
-        20 <= base && base <= 5000
-    } else {
-        base == 0
+    match formula {
+        Formula::Other { .. } => (20..=5000).contains(&base),
+        _ => base == 0,
     }
 }

@@ -9,7 +9,7 @@ stays : (c : goal.Joined-then-self-eq0) → c.args.self.denominator ≡ 0
 stays c =
     elim c.then-self-eq0.either [
       | inl z ↦ z
-      | inr h ↦ eq-zero_of_zero-dvd (subst (λ (g : ℕ). g ∣ c.args.self.denominator) h.1 c.greatest_common_divisor-divisor.ensures.right)
+      | inr h ↦ eq-zero_of_zero-dvd (subst (λ (g : ℕ). g ∣ c.args.self.denominator) h.1 c.greatest_common_divisor-divisor.ensures.1)
     ]
 
 pub returns-then-self-eq0 : goal.returns-then-self-eq0
@@ -18,9 +18,9 @@ returns-then-self-eq0 c = record { same = refl; lowest = λ h. let z = stays c i
 pub returns : goal.returns
 returns c =
     let p : 0 < c.args.self.denominator = omega arith in
-    let g = c.greatest_common_divisor-divisor.ensures in
+    let gcd = c.greatest_common_divisor-divisor.ensures in
     record {
-      same = quotients_same c.args.self.numerator c.args.self.denominator c.greatest_common_divisor-divisor.result g p;
-      lowest = λ h. (quotient_positive c.args.self.numerator c.args.self.denominator c.greatest_common_divisor-divisor.result g p, quotients_coprime c.args.self.numerator c.args.self.denominator c.greatest_common_divisor-divisor.result g p);
+      same = quotients_same _ _ _ gcd p;
+      lowest = λ h. (quotient_positive _ _ _ gcd p, quotients_coprime _ _ _ gcd p);
       kept = λ e. absurd (omega arith);
     }
