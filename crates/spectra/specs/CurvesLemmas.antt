@@ -1,5 +1,8 @@
 -- The steps of a site curve: the verdict on them, and what good ones answer. Assumes nothing.
-use Rattle.std.specs.Prelude.{◌≡◌, ℕ, ◌+◌, ◌<◌, ◌≤◌, Bool, true, false, cond, not, ◌&&◌, List, [], ◌∷◌, ◌++◌, length, get_or, drop, Ok, Err, ◌==◌, nat_le, nat_lt, slice_index_or, refl}
+-- `accepted`, `answered` and `sought_answers` serve the proofs. The lemmas on one step of a walk (`judged_more`, `judged_bad`, `judged_good`,
+-- `last_upper_more`, `judged_all`, `last_upper_all`, `ended`, `found`, `passed`) serve none now: they stand for readers, as what the definitions say step by step.
+use Rattle.std.specs.Prelude.{◌≡◌, ℕ, ◌+◌, ◌<◌, ◌≤◌, Bool, true, false, cond, not, ◌&&◌, List, [], ◌∷◌, ◌++◌, length, get_or, drop, Ok, Err, ◌==◌, nat_le, nat_lt, slice_index_or, Some, find, unwrap_or, refl}
+use Rattle.std.specs.Option.{option_map}
 use Rattle.std.proofs.Common.{sym, ap, ◌∙◌, inl, inr, arith}
 use Rattle.std.proofs.lemmas.List.{at_drop_more, drop_all}
 use Rattle.std.proofs.lemmas.Bool.{cases_Bool, and_parts, leb-true, leb-false, le-leb, lt-leb, cond-true, cond-false, eqb-true}
@@ -104,6 +107,15 @@ module _ (ss : List Step) (i t : ℕ) (l : i < length ss) where
 
   pub passed : (get_or ss i blank).upper < t → thousandths_at (drop i ss) t ≡ thousandths_at (drop (i + 1) ss) t
   passed h = at_drop_more (λ (xs : List Step). thousandths_at xs t) ss i blank l ∙ cond-false _ _ _ (lt-leb _ _ h)
+
+-- a search finds the step that answers
+pub sought_answers : (ss : List Step) (t : ℕ) → unwrap_or (option_map (λ s. s.thousandths) (find (λ s. nat_le t s.upper) ss)) 0 ≡ thousandths_at ss t
+sought_answers [] t = refl
+sought_answers (s ∷ ss) t =
+    elim (cases_Bool (nat_le t s.upper)) [
+      | inl b ↦ rw (cond-true (nat_le t s.upper) (Some s) (find (λ s. nat_le t s.upper) ss) b, cond-true (nat_le t s.upper) s.thousandths (thousandths_at ss t) b) refl
+      | inr b ↦ rw (cond-false (nat_le t s.upper) (Some s) (find (λ s. nat_le t s.upper) ss) b, cond-false (nat_le t s.upper) s.thousandths (thousandths_at ss t) b) (sought_answers ss t)
+    ]
 
 -- the verdict, once the last step is behind
 pub ended : (ss : List Step) (i place before : ℕ) → 1 ≤ length ss → length ss ≤ 32 → length ss ≤ i → last_upper before (drop i ss) ≡ last_upper 0 ss → judged place before (closing ss) (drop i ss) ≡ judged 1 0 (closing ss) ss

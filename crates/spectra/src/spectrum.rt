@@ -6,22 +6,36 @@ ghost use Rattle.std.proofs.Common.{rules};
 
 use standard::fraction::Fraction;
 use standard::measures::Period;
+use standard::site::Site;
 use standard::terms::Soil;
 
+// A spectrum answers every period with an ordinate that is within the law.
 pub trait Spectrum {
     // Sa, a fraction for each period.
     ghost ordinate: { Self → ℕ → Fraction };
 
+    // Sa at this period.
     fn at(&self, period: Period) -> Fraction
-        ensures { result ≡ ordinate self.now period.milliseconds };
+        ensures { result ≡ ordinate self.now period.value };
 
     ghost lawful: { (s : Self) → SpectrumLaw (ordinate s) };
 }
 
 // The curve that the code gives for a kind of soil.
-#[derive(Clone, Copy)]
+#[derive(Clone, Copy, PartialEq, Eq, Debug)]
 pub struct CodeCurve {
     pub soil: Soil,
+}
+
+// The code's curve for the soil of a site.
+impl From<&Site> for CodeCurve {
+    ghost from_gives = { λ site curve. curve.soil ≡ site.now.terms.soil };
+
+    fn from(site: &Site) -> CodeCurve {
+        CodeCurve {
+            soil: site.terms.soil,
+        }
+    }
 }
 
 impl Spectrum for CodeCurve {
@@ -30,7 +44,7 @@ impl Spectrum for CodeCurve {
     ghost lawful = { Prim.search rules };
 
     fn at(&self, period: Period) -> Fraction {
-        let t = u32::from(period.milliseconds);
+        let t = u32::from(period.value);
         let (level, falling) = match self.soil {
             Soil::Hard => (400, 1000),
             Soil::Medium => (550, 1360),

@@ -1,5 +1,5 @@
-ghost use Rattle.std.specs.Prelude.{◌≡◌, ◌≤◌, true, [], ◌∷◌, length, take, is_ok, is_err};
-ghost use Rattle.standard.specs.Faults.{verdict, fault};
+ghost use Rattle.std.specs.Prelude.{◌≡◌, ◌≤◌, true, [], ◌∷◌, length, is_ok, is_err};
+ghost use Rattle.standard.specs.Faults.{verdict};
 ghost use Rattle.spectra.specs.Curves.{steps_of};
 ghost use Rattle.spectra.specs.Spectra.{curve_refusals, site_curve, thousandths_at, is_good_after};
 ghost use Rattle.std.proofs.Common.{arith};
@@ -7,6 +7,7 @@ ghost use Rattle.spectra.specs.CurvesLemmas.{answered};
 
 use super::{SiteCurve, Step};
 use crate::spectrum::Spectrum;
+use fixed_list::FixedList;
 use standard::fault::{Fault, Ground};
 use standard::fraction::Fraction;
 use standard::measures::Period;
@@ -22,8 +23,7 @@ impl SiteCurve {
         ensures { steps_of result ≡ (record { upper = 4000; thousandths = 2500 } ∷ []) }
     {
         SiteCurve {
-            steps: [WHOLE; 32],
-            count: 1,
+            steps: FixedList::from_slice(&[WHOLE]).unwrap(),
         }
     }
 
@@ -33,11 +33,9 @@ impl SiteCurve {
         ensures filled { is_ok result ≡ true → steps_of self.new ≡ steps.now }
         ensures kept { is_err result ≡ true → self.new ≡ self.old }
     {
+        let held = FixedList::from_slice(steps).ok_or(Ground::SiteCurveStep.at(0))?;
         judge_steps(steps)?;
-        *self = SiteCurve {
-            steps: copied(steps),
-            count: steps.len(),
-        };
+        *self = SiteCurve { steps: held };
         Ok(())
     }
 }
@@ -49,18 +47,9 @@ impl Spectrum for SiteCurve {
 
     fn at(&self, period: Period) -> Fraction {
         Fraction {
-            numerator: u32::from(value_at(&self.steps[0..self.count], period.milliseconds)),
+            numerator: u32::from(value_at(self.steps.as_slice(), period.value)),
             denominator: 1000,
         }
-    }
-}
-
-fn bad_step(place: u32) -> Fault
-    ensures { result ≡ fault Ground.SiteCurveStep place }
-{
-    Fault {
-        ground: Ground::SiteCurveStep,
-        place,
     }
 }
 
@@ -68,52 +57,36 @@ fn bad_step(place: u32) -> Fault
 fn good_after(before: u16, step: Step) -> bool
     ensures { result ≡ is_good_after before step }
 {
-    before < step.upper && 1 <= step.thousandths && step.thousandths <= 8000
+    before < step.upper && (1..=8000).contains(&step.thousandths)
 }
 
 // Whether the steps make a curve.
 fn judge_steps(steps: &[Step]) -> Result<(), Fault>
+    requires { length steps.now ≤ 32 }
     ensures { result ≡ verdict (curve_refusals steps.now) }
 {
-    let count = steps.len();
-    if count < 1 || count > 32 {
-        return Err(bad_step(0));
+    if steps.is_empty() {
+        return Err(Ground::SiteCurveStep.at(0));
     }
     let mut before = 0;
-    let mut place = 0;
-    for step in steps {
-        place += 1;
+    for (i, step) in steps.iter().enumerate() {
         if !good_after(before, *step) {
-            return Err(bad_step(place));
+            return Err(Ground::SiteCurveStep.at(i as u32 + 1));
         }
         before = step.upper;
     }
     if before != 4000 {
-        return Err(bad_step(place));
+        return Err(Ground::SiteCurveStep.at(steps.len() as u32));
     }
     Ok(())
-}
-
-// The steps at the start of an array.
-fn copied(steps: &[Step]) -> [Step; 32]
-    requires { length steps.now ≤ 32 }
-    ensures { take (length steps.now) result ≡ steps.now }
-{
-    let mut held = [WHOLE; 32];
-    for (i, step) in steps.iter().enumerate() {
-        held[i] = *step;
-    }
-    held
 }
 
 // The thousandths of the first step whose upper period is at least this; 0 where there is none.
 fn value_at(steps: &[Step], milliseconds: u16) -> u16
     ensures { result ≡ thousandths_at steps.now milliseconds }
 {
-    for step in steps {
-        if milliseconds <= step.upper {
-            return step.thousandths;
-        }
-    }
-    0
+    steps
+        .iter()
+        .find(|step| milliseconds <= step.upper)
+        .map_or(0, |step| step.thousandths)
 }

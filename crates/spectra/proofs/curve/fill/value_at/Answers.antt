@@ -1,15 +1,15 @@
-use Rattle.std.proofs.Common.{List, sym, ap, ◌∙◌}
-use Rattle.std.proofs.lemmas.List.{drop_all}
-use Rattle.spectra.specs.declared.curve.Step.{Step}
-use Rattle.spectra.specs.Spectra.{thousandths_at}
-use Rattle.spectra.specs.CurvesLemmas.{found, passed}
+use Rattle.std.specs.Prelude.{◌≡◌, nat_le, find, unwrap_or}
+use Rattle.std.specs.Option.{option_map}
+use Rattle.std.proofs.Common.{◌∙◌, ap, rules, tests}
+use Rattle.std.proofs.lemmas.Iterator.{YieldsList-from_slice}
+use Rattle.std.proofs.lemmas.Iterator.Search.{find_from_yields_List}
+use Rattle.spectra.specs.CurvesLemmas.{sought_answers}
 use Rattle.spectra.proofs.curve.fill.value_at.Goals as goal
 
-pub returns-then-milliseconds-step : goal.returns-then-milliseconds-step
-returns-then-milliseconds-step c = sym (found c.args.steps.now c.loop-step.step-index c.args.milliseconds c.loop-step-test.true c.if-milliseconds-step.true) ∙ c.loop-step.invariant
-
-pub loop-step-preserved : goal.loop-step-preserved
-loop-step-preserved c = sym (passed c.args.steps.now c.loop-step.step-index c.args.milliseconds c.loop-step-test.true c.if-milliseconds-step.false) ∙ c.loop-step.invariant
-
+-- the code searches for the step, and the step that is found answers
 pub returns : goal.returns
-returns c = sym (ap (λ (xs : List Step). thousandths_at xs c.args.milliseconds) (drop_all c.loop-step.step-index c.args.steps.now c.loop-step-test.false)) ∙ c.loop-step.invariant
+returns c =
+    let found : option_map (λ s. s.now) c.find.result ≡ find (λ s. nat_le c.args.milliseconds s.upper) c.args.steps.now =
+    find_from_yields_List (λ s. nat_le c.args.milliseconds s.upper) _ _ _ c.find.ensures.ran (YieldsList-from_slice c.args.steps.now cc) (λ x b q k. search (rules, tests)) in
+    let given : c.map_or.result ≡ unwrap_or (option_map (λ s. s.thousandths) (option_map (λ s. s.now) c.find.result)) 0 = search (rules, tests) in
+    given ∙ ap (λ o. unwrap_or (option_map (λ s. s.thousandths) o) 0) found ∙ sought_answers c.args.steps.now c.args.milliseconds
