@@ -1,10 +1,9 @@
 -- The groups as a loop builds them. Assumes nothing.
-use Rattle.std.proofs.Common.{◌≡◌, ℕ, ◌+◌, ◌-◌, ◌<◌, ◌≤◌, Bool, true, false, cond, ltb, ◌⊎◌, List, [], ◌∷◌, ◌++◌, length, get_or, take, drop, set, ℤ, pos, ◌+ℤ◌, neg_ℤ, nat_abs, sym, refl, ap, ◌∙◌, subst, inl, inr, arith, w32, SFits, to_z, of_z}
-use Rattle.std.proofs.lemmas.List.{at_drop_more, at_drop_all, take_more, take_more_set, length-set, get_or-set_same}
-use Rattle.std.proofs.lemmas.Int.{ints}
+use Rattle.std.proofs.Common.{◌≡◌, ℕ, ◌+◌, ◌<◌, ◌≤◌, Bool, true, false, cond, ltb, List, [], ◌∷◌, ◌++◌, length, get_or, drop, ℤ, pos, sym, refl, ap, ◌∙◌, arith}
+use Rattle.std.proofs.lemmas.List.{at_drop_more, at_drop_all, length-append}
 use Rattle.std.proofs.lemmas.Bool.Decides.{nat_tests}
 use Rattle.combination.specs.declared.response.Response.{Response}
-use Rattle.combination.specs.Values.{total, size, mode, most, largest, falls, Sound}
+use Rattle.combination.specs.Values.{total, size, mode, largest, falls, Sound}
 use Rattle.combination.specs.Groups.{close, put, groups}
 
 abbrev nil : Response
@@ -136,94 +135,39 @@ total_push : (xs : List Response) (y : Response) → total (xs ++ (y ∷ [])) �
 total_push [] y = omega arith
 total_push (x ∷ xs) y = omega (arith, total_push xs y)
 
--- ---- the numbers that the code reads and writes
+-- ---- a turn of the loop: the groups behind, the one that is being built, and i of the values after the first seen
 
-pub abs_fits : (z : ℤ) → SFits w32 z → nat_abs z ≤ largest → SFits w32 (neg_ℤ (to_z w32 (of_z w32 z)))
-abs_fits z f h = omega (arith, ints)
+-- the group that is being built is not negative, and the groups so far, before those of the values that follow, are the groups of all
+abbrev pub Built : List Response → List Response → List Response → Response → ℕ → ℕ → Type 0
+Built all rest behind g i q = (length behind ≤ i) × (g.value ≡ pos (size g)) × (meld (behind ++ (g ∷ [])) q (groups (drop i rest)) ≡ groups all)
 
-abs_value : (z r : ℤ) → SFits w32 z → r ≡ pos (nat_abs (to_z w32 (of_z w32 z))) → nat_abs z ≤ largest → to_z w32 (of_z w32 r) ≡ pos (nat_abs z)
-abs_value z r f e h = omega (arith, ints)
+pub begun : (x : Response) (rest all : List Response) → all ≡ x ∷ rest → Built all rest [] (mode x.period (pos (size x))) 0 x.period
+begun x rest all e = (omega arith, refl, sym (put_lead x.period (size x) (groups rest)) ∙ ap groups (sym e))
 
-sum_value : (g r : ℤ) (m n : ℕ) → SFits w32 g → g ≡ pos m → to_z w32 (of_z w32 r) ≡ pos n → m + n ≤ largest → to_z w32 (of_z w32 g) +ℤ to_z w32 (of_z w32 r) ≡ pos (m + n)
-sum_value g r m n f d e h = omega (arith, ints)
+module _ (all rest behind : List Response) (g : Response) (i q : ℕ) (state : Built all rest behind g i q) where
+  -- all values were seen
+  pub ended : length rest ≤ i → behind ++ (g ∷ []) ≡ groups all
+  ended l = sym (meld_end (behind ++ (g ∷ [])) q) ∙ ap (meld (behind ++ (g ∷ [])) q) (sym (at_drop_all groups rest i l)) ∙ state.2
 
-small_fits : (z : ℤ) (n : ℕ) → z ≡ pos n → n ≤ largest → SFits w32 z
-small_fits z n e h = omega (arith, ints)
+  module _ (next : i < length rest) where
+    next_put : groups (drop i rest) ≡ put (get_or rest i nil).period (size (get_or rest i nil)) (groups (drop (i + 1) rest))
+    next_put = at_drop_more groups rest i nil next
 
-small_value : (z : ℤ) (n : ℕ) → z ≡ pos n → n ≤ largest → to_z w32 (of_z w32 z) ≡ pos n
-small_value z n e h = omega (arith, ints)
+    pub both_small : total all ≤ largest → size g + size (get_or rest i nil) ≤ largest
+    both_small h =
+        let e : total (drop i rest) ≡ size (get_or rest i nil) + total (drop (i + 1) rest) = at_drop_more total rest i nil next in
+        omega (arith, h, e, ap total state.2, meld_total (behind ++ (g ∷ [])) q (groups (drop i rest)), total_push behind g, groups_total (drop i rest), groups_total all)
 
--- ---- a turn of the loop: the array's first items are the groups so far of xs, of which i values were seen
+    pub joined : (y : ℤ) → y ≡ pos (size g + size (get_or rest i nil)) → close q (get_or rest i nil).period ≡ true → Built all rest behind (mode g.period y) (i + 1) (get_or rest i nil).period
+    joined y d e = rw d (
+      omega (arith, state.0),
+      refl,
+      sym (meld_joins behind g q (get_or rest i nil).period (size (get_or rest i nil)) (groups (drop (i + 1) rest)) e) ∙ ap (meld (behind ++ (g ∷ [])) q) (sym next_put) ∙ state.2,
+    )
 
--- the last group's value is not negative, and the groups so far, before those of the values that follow, are the groups of all
-abbrev pub Built : List Response → List Response → ℕ → ℕ → ℕ → Type 0
-Built items xs count i q =
-    (length items ≡ most) × (count ≤ i) × ((get_or items (count - 1) nil).value ≡ pos (size (get_or items (count - 1) nil))) × (meld (take count items) q (groups (drop i xs)) ≡ groups xs)
-
-module _ (items xs : List Response) (count i q : ℕ) (state : Built items xs count i q) (next : i < length xs) where
-  next_put : groups (drop i xs) ≡ put (get_or xs i nil).period (size (get_or xs i nil)) (groups (drop (i + 1) xs))
-  next_put = at_drop_more groups xs i nil next
-
-  shares : total (take count items) + (size (get_or xs i nil) + total (drop (i + 1) xs)) ≡ total xs
-  shares =
-      let e : total (drop i xs) ≡ size (get_or xs i nil) + total (drop (i + 1) xs) = at_drop_more total xs i nil next in
-      omega (arith, ap total state.3, meld_total (take count items) q (groups (drop i xs)), groups_total (drop i xs), groups_total xs)
-
-  pub size_small : total xs ≤ largest → size (get_or xs i nil) ≤ largest
-  size_small h = omega (arith, shares)
-
-  split : 0 < count → count ≤ length items → take count items ≡ take (count - 1) items ++ (get_or items (count - 1) nil ∷ [])
-  split h l = let e : count - 1 + 1 ≡ count = omega arith in ap (λ (k : ℕ). take k items) (sym e) ∙ take_more items (count - 1) nil (omega arith)
-
-  sum_small : 0 < count → count ≤ length items → total xs ≤ largest → size (get_or items (count - 1) nil) + size (get_or xs i nil) ≤ largest
-  sum_small h l m = omega (arith, shares, ap total (split h l), total_push (take (count - 1) items) (get_or items (count - 1) nil))
-
-  joins : (y : Response) → y ≡ mode (get_or items (count - 1) nil).period (pos (size (get_or items (count - 1) nil) + size (get_or xs i nil))) → 0 < count → count ≤ length items → close q (get_or xs i nil).period ≡ true → meld (take count (set items (count - 1) y)) (get_or xs i nil).period (groups (drop (i + 1) xs)) ≡ groups xs
-  joins y d h l e =
-      let k : count - 1 + 1 ≡ count = omega arith in
-      let after : take count (set items (count - 1) y) ≡ take (count - 1) items ++ (mode (get_or items (count - 1) nil).period (pos (size (get_or items (count - 1) nil) + size (get_or xs i nil))) ∷ []) = ap (λ (j : ℕ). take j (set items (count - 1) y)) (sym k) ∙ take_more_set items (count - 1) y (omega arith) ∙ ap (λ (z : Response). take (count - 1) items ++ (z ∷ [])) d in
-      ap (λ (bs : List Response). meld bs (get_or xs i nil).period (groups (drop (i + 1) xs))) after ∙ sym (meld_joins (take (count - 1) items) (get_or items (count - 1) nil) q (get_or xs i nil).period (size (get_or xs i nil)) (groups (drop (i + 1) xs)) e) ∙ ap (λ (bs : List Response). meld bs q (put (get_or xs i nil).period (size (get_or xs i nil)) (groups (drop (i + 1) xs)))) (sym (split h l)) ∙ ap (meld (take count items) q) (sym next_put) ∙ state.3
-
-  opens : (y : Response) → y ≡ mode (get_or xs i nil).period (pos (size (get_or xs i nil))) → count < length items → (count ≤ 0) ⊎ (close q (get_or xs i nil).period ≡ false) → meld (take (count + 1) (set items count y)) (get_or xs i nil).period (groups (drop (i + 1) xs)) ≡ groups xs
-  opens y d l e =
-      let after : take (count + 1) (set items count y) ≡ take count items ++ (mode (get_or xs i nil).period (pos (size (get_or xs i nil))) ∷ []) = take_more_set items count y l ∙ ap (λ (z : Response). take count items ++ (z ∷ [])) d in
-      ap (λ (bs : List Response). meld bs (get_or xs i nil).period (groups (drop (i + 1) xs))) after ∙ sym (alone e) ∙ ap (meld (take count items) q) (sym next_put) ∙ state.3
-    where
-      alone : (count ≤ 0) ⊎ (close q (get_or xs i nil).period ≡ false) → meld (take count items) q (put (get_or xs i nil).period (size (get_or xs i nil)) (groups (drop (i + 1) xs))) ≡ meld (take count items ++ (mode (get_or xs i nil).period (pos (size (get_or xs i nil))) ∷ [])) (get_or xs i nil).period (groups (drop (i + 1) xs))
-      alone (inl z) = let k : count ≡ 0 = omega arith in rw k (put_lead (get_or xs i nil).period (size (get_or xs i nil)) (groups (drop (i + 1) xs)))
-      alone (inr f) = meld_opens (take count items) q (get_or xs i nil).period (size (get_or xs i nil)) (groups (drop (i + 1) xs)) f
-
-  turn_joins : (y : Response) → y ≡ mode (get_or items (count - 1) nil).period (pos (size (get_or items (count - 1) nil) + size (get_or xs i nil))) → 0 < count → count ≤ length items → close q (get_or xs i nil).period ≡ true → Built (set items (count - 1) y) xs count (i + 1) (get_or xs i nil).period
-  turn_joins y d h l e =
-      let g : get_or (set items (count - 1) y) (count - 1) nil ≡ y = get_or-set_same items (count - 1) y nil (omega arith) in
-      (length-set items (count - 1) y ∙ state.0, omega (arith, state.1), rw g (rw d refl), joins y d h l e)
-
-  turn_opens : (y : Response) → y ≡ mode (get_or xs i nil).period (pos (size (get_or xs i nil))) → count < length items → (count ≤ 0) ⊎ (close q (get_or xs i nil).period ≡ false) → Built (set items count y) xs (count + 1) (i + 1) (get_or xs i nil).period
-  turn_opens y d l e =
-      let k : count + 1 - 1 ≡ count = omega arith in
-      let g : get_or (set items count y) count nil ≡ y = get_or-set_same items count y nil l in
-      (length-set items count y ∙ state.0, omega (arith, state.1), rw (k, g) (rw d refl), opens y d l e)
-
-  -- the same with the numbers as the code has them
-  module _ (r : ℤ) (read : SFits w32 (get_or xs i nil).value) (sized : r ≡ pos (nat_abs (to_z w32 (of_z w32 (get_or xs i nil).value)))) (light : total xs ≤ largest) where
-    value : to_z w32 (of_z w32 r) ≡ pos (size (get_or xs i nil))
-    value = abs_value (get_or xs i nil).value r read sized (size_small light)
-
-    sum : 0 < count → count ≤ length items → to_z w32 (of_z w32 (get_or items (count - 1) nil).value) +ℤ to_z w32 (of_z w32 r) ≡ pos (size (get_or items (count - 1) nil) + size (get_or xs i nil))
-    sum h l = sum_value (get_or items (count - 1) nil).value r _ _ (small_fits _ _ state.2 (omega (arith, sum_small h l light))) state.2 value (sum_small h l light)
-
-    pub sum_fits : 0 < count → count ≤ length items → SFits w32 (to_z w32 (of_z w32 (get_or items (count - 1) nil).value) +ℤ to_z w32 (of_z w32 r))
-    sum_fits h l = small_fits _ _ (sum h l) (sum_small h l light)
-
-    pub joined : 0 < count → count ≤ length items → close q (get_or xs i nil).period ≡ true → Built (set items (count - 1) (mode (get_or items (count - 1) nil).period (to_z w32 (of_z w32 (to_z w32 (of_z w32 (get_or items (count - 1) nil).value) +ℤ to_z w32 (of_z w32 r)))))) xs count (i + 1) (get_or xs i nil).period
-    joined h l e = turn_joins _ (ap (mode (get_or items (count - 1) nil).period) (small_value _ _ (sum h l) (sum_small h l light))) h l e
-
-    pub opened : count < length items → (count ≤ 0) ⊎ (close q (get_or xs i nil).period ≡ false) → Built (set items count (mode (get_or xs i nil).period (to_z w32 (of_z w32 r)))) xs (count + 1) (i + 1) (get_or xs i nil).period
-    opened l e = turn_opens _ (ap (mode (get_or xs i nil).period) value) l e
-
-pub moved : (items items' xs : List Response) (count count' i q : ℕ) → items' ≡ items → count' ≡ count → Built items xs count i q → Built items' xs count' i q
-moved items items' xs count count' i q d e b = subst (λ (k : ℕ). Built items' xs k i q) (sym e) (subst (λ (l : List Response). Built l xs count i q) (sym d) b)
-
--- all values were seen
-pub ended : (items xs : List Response) (count i q : ℕ) → Built items xs count i q → length xs ≤ i → take count items ≡ groups xs
-ended items xs count i q state l = sym (meld_end (take count items) q) ∙ ap (meld (take count items) q) (sym (at_drop_all groups xs i l)) ∙ state.3
+    pub opened : (more : List Response) (h : Response) → more ≡ behind ++ (g ∷ []) → h ≡ mode (get_or rest i nil).period (pos (size (get_or rest i nil))) → close q (get_or rest i nil).period ≡ false → Built all rest more h (i + 1) (get_or rest i nil).period
+    opened more h d f e = rw (d, f) (
+      omega (arith, state.0, length-append behind (g ∷ [])),
+      refl,
+      sym (meld_opens (behind ++ (g ∷ [])) q (get_or rest i nil).period (size (get_or rest i nil)) (groups (drop (i + 1) rest)) e) ∙ ap (meld (behind ++ (g ∷ [])) q) (sym next_put) ∙ state.2,
+    )

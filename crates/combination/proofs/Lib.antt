@@ -1,3 +1,3 @@
 pub mod SquaresLaws
-pub mod Checked
+pub mod Falling
 pub mod Grown

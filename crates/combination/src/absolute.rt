@@ -11,18 +11,12 @@ pub struct AbsoluteSum;
 impl Rule for AbsoluteSum {
     ghost squared = { λ s xs. squared_total xs };
 
-    ghost lone = { λ s. TotalLaws.lone };
-
-    ghost scale = { λ s. TotalLaws.scale };
-
-    ghost triangle = { λ s. TotalLaws.triangle };
-
-    ghost rise = { λ s. TotalLaws.rise };
+    ghost laws = { λ s. TotalLaws.laws };
 
     fn combine(&self, list: Responses<'_>) -> u32 {
         let mut sum: u32 = 0;
         for x in list.items {
-            sum += x.value.unsigned_abs();
+            sum += x.size();
         }
         sum
     }

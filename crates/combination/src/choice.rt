@@ -1,5 +1,5 @@
 ghost use Rattle.std.specs.Prelude.{refl};
-ghost use Rattle.combination.specs.Choice.{chosen};
+ghost use Rattle.combination.specs.Choice.{chosen, IsNumbered};
 ghost use Rattle.combination.specs.declared.choice.RuleChoice.TheVariants.{SumOfSquares, AbsoluteSum, GroupedSumOfSquares, GroupedAbsoluteSum};
 ghost use Rattle.combination.specs.Squared;
 ghost use Rattle.combination.specs.Squared.{squared_total};
@@ -12,9 +12,11 @@ use crate::grouping::Grouping;
 use crate::responses::Responses;
 use crate::rule::Rule;
 use crate::squares::SumOfSquares;
+use std::error::Error;
+use std::fmt;
 
 // One of the rules, as a value.
-#[derive(Clone, Copy, PartialEq)]
+#[derive(Clone, Copy, Debug, PartialEq, Eq)]
 pub enum RuleChoice {
     SumOfSquares,
     AbsoluteSum,
@@ -22,35 +24,47 @@ pub enum RuleChoice {
     GroupedAbsoluteSum,
 }
 
+// A number that no rule has.
+#[derive(Clone, Copy, Debug, PartialEq, Eq)]
+pub struct UnknownRule(pub u8);
+
+impl TryFrom<u8> for RuleChoice {
+    type Error = UnknownRule;
+
+    ghost try_from_gives = { IsNumbered };
+
+    fn try_from(number: u8) -> Result<RuleChoice, UnknownRule> {
+        match number {
+            1 => Ok(RuleChoice::SumOfSquares),
+            2 => Ok(RuleChoice::AbsoluteSum),
+            3 => Ok(RuleChoice::GroupedSumOfSquares),
+            4 => Ok(RuleChoice::GroupedAbsoluteSum),
+            _ => Err(UnknownRule(number)),
+        }
+    }
+}
+
+impl fmt::Display for UnknownRule {
+    ghost use Rattle.std.specs.Prelude.{◌++◌, Some, codes};
+    ghost use Rattle.std.specs.Fmt.{decimal};
+
+    ghost output = { λ e. Some (codes "no rule has the number " ++ decimal e.0) };
+
+    fn fmt<W: fmt::Write>(&self, f: &mut fmt::Formatter<W>) -> fmt::Result {
+        write!(f, "no rule has the number {}", self.0)
+    }
+}
+
+impl Error for UnknownRule {}
+
 impl Rule for RuleChoice {
     ghost squared = { chosen };
 
-    ghost lone = { elim [
-      | SumOfSquares ↦ SquareSums.lone Squared.squares (record { start = refl; step = λ x xs. refl })
-      | AbsoluteSum ↦ TotalLaws.lone
-      | GroupedSumOfSquares ↦ GroupsLaws.lone Squared.squares (SquareSums.lone Squared.squares (record { start = refl; step = λ x xs. refl }))
-      | GroupedAbsoluteSum ↦ GroupsLaws.lone squared_total TotalLaws.lone
-    ] };
-
-    ghost scale = { elim [
-      | SumOfSquares ↦ SquareSums.scale Squared.squares (record { start = refl; step = λ x xs. refl })
-      | AbsoluteSum ↦ TotalLaws.scale
-      | GroupedSumOfSquares ↦ GroupsLaws.scale Squared.squares (SquareSums.scale Squared.squares (record { start = refl; step = λ x xs. refl }))
-      | GroupedAbsoluteSum ↦ GroupsLaws.scale squared_total TotalLaws.scale
-    ] };
-
-    ghost triangle = { elim [
-      | SumOfSquares ↦ SquareSums.triangle Squared.squares (record { start = refl; step = λ x xs. refl })
-      | AbsoluteSum ↦ TotalLaws.triangle
-      | GroupedSumOfSquares ↦ GroupsLaws.triangle Squared.squares (SquareSums.triangle Squared.squares (record { start = refl; step = λ x xs. refl })) (SquareSums.rise Squared.squares (record { start = refl; step = λ x xs. refl }))
-      | GroupedAbsoluteSum ↦ GroupsLaws.triangle squared_total TotalLaws.triangle TotalLaws.rise
-    ] };
-
-    ghost rise = { elim [
-      | SumOfSquares ↦ SquareSums.rise Squared.squares (record { start = refl; step = λ x xs. refl })
-      | AbsoluteSum ↦ TotalLaws.rise
-      | GroupedSumOfSquares ↦ GroupsLaws.rise Squared.squares (SquareSums.rise Squared.squares (record { start = refl; step = λ x xs. refl }))
-      | GroupedAbsoluteSum ↦ GroupsLaws.rise squared_total TotalLaws.rise
+    ghost laws = { elim [
+      | SumOfSquares ↦ SquareSums.laws Squared.squares refl (λ _ _. refl)
+      | AbsoluteSum ↦ TotalLaws.laws
+      | GroupedSumOfSquares ↦ GroupsLaws.laws Squared.squares (SquareSums.laws Squared.squares refl (λ _ _. refl))
+      | GroupedAbsoluteSum ↦ GroupsLaws.laws squared_total TotalLaws.laws
     ] };
 
     fn combine(&self, list: Responses<'_>) -> u32 {

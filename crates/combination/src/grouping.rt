@@ -1,14 +1,17 @@
-ghost use Rattle.std.specs.Prelude.{◌≡◌, take};
+ghost use Rattle.std.specs.Prelude.{◌≡◌, ◌≤◌, pos};
+ghost use Rattle.fixed_list.specs.Items.{items_of};
 ghost use Rattle.rounding.specs.Roots.{root};
+ghost use Rattle.combination.specs.Values.{size, mode, largest};
 ghost use Rattle.combination.specs.Squared.{squares};
 ghost use Rattle.combination.specs.Groups.{close, groups};
 ghost use Rattle.combination.specs.GroupsLaws;
 
 use crate::response::Response;
-use crate::response_list::{MOST, ResponseList};
+use crate::response_list::ResponseList;
 use crate::responses::Responses;
 use crate::rule::Rule;
 use crate::squares::SumOfSquares;
+use fixed_list::FixedList;
 
 // A rule over the groups of close values.
 #[derive(Clone, Copy)]
@@ -19,13 +22,7 @@ pub struct Grouping<R> {
 impl<R: Rule> Rule for Grouping<R> {
     ghost squared = { λ s xs. R.Rule.squared s.rule (groups xs) };
 
-    ghost lone = { λ s. GroupsLaws.lone (R.Rule.squared s.rule) (R.Rule.lone s.rule) };
-
-    ghost scale = { λ s. GroupsLaws.scale (R.Rule.squared s.rule) (R.Rule.scale s.rule) };
-
-    ghost triangle = { λ s. GroupsLaws.triangle (R.Rule.squared s.rule) (R.Rule.triangle s.rule) (R.Rule.rise s.rule) };
-
-    ghost rise = { λ s. GroupsLaws.rise (R.Rule.squared s.rule) (R.Rule.rise s.rule) };
+    ghost laws = { λ s. GroupsLaws.laws (R.Rule.squared s.rule) (R.Rule.laws s.rule) };
 
     fn combine(&self, list: Responses<'_>) -> u32 {
         self.rule.combine(grouped(list).list())
@@ -34,28 +31,38 @@ impl<R: Rule> Rule for Grouping<R> {
 
 // Each run of close neighbours as one value, of the sum of their sizes and the longest of their periods.
 fn grouped(list: Responses<'_>) -> ResponseList
-    ensures { take result.count result.items ≡ groups list.entry.items.now }
+    ensures { items_of result.held ≡ groups list.entry.items.now }
 {
-    let mut items = [Response {
-        period: 0,
-        value: 0,
-    }; MOST];
-    let mut count = 0;
-    let mut previous = 0;
-    for x in list.items {
-        let size = x.value.abs();
-        if count > 0 && is_close(previous, x.period) {
-            items[count - 1].value += size;
+    let mut held = FixedList::new();
+    let Some((first, rest)) = list.items.split_first() else {
+        return ResponseList { held };
+    };
+    let mut group = sized(first);
+    let mut previous = first.period;
+    for x in rest {
+        let next = sized(x);
+        if is_close(previous, x.period) {
+            group.value += next.value;
         } else {
-            items[count] = Response {
-                period: x.period,
-                value: size,
-            };
-            count += 1;
+            // There is room: no more groups than values.
+            let _ = held.push(group);
+            group = next;
         }
         previous = x.period;
     }
-    ResponseList { items, count }
+    let _ = held.push(group);
+    ResponseList { held }
+}
+
+// A value of the same size that is not negative.
+fn sized(x: &Response) -> Response
+    requires { size x.now ≤ largest }
+    ensures { result ≡ mode x.now.period (pos (size x.now)) }
+{
+    Response {
+        period: x.period,
+        value: x.value.abs(),
+    }
 }
 
 // Whether a period is at most the next shorter one and a tenth of it.

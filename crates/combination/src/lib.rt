@@ -14,7 +14,7 @@ mod rule;
 mod squares;
 
 pub use absolute::AbsoluteSum;
-pub use choice::RuleChoice;
+pub use choice::{RuleChoice, UnknownRule};
 pub use grouping::{Grouping, twice_grouped};
 pub use response::Response;
 pub use response_list::ResponseList;

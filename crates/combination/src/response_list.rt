@@ -1,58 +1,56 @@
-ghost use Rattle.std.specs.Prelude.{◌≡◌, ◌≤◌, take, MatchOption};
-ghost use Rattle.combination.specs.Values.{Sound, most};
+ghost use Rattle.std.specs.Prelude.{◌≡◌, ◌≤◌, length, MatchOption};
+ghost use Rattle.fixed_list.specs.Items.{items_of};
+ghost use Rattle.combination.specs.Values.{Sound, falls, total, most};
 
 use crate::response::Response;
 use crate::responses::Responses;
+use fixed_list::FixedList;
 
 // As many values as a storey can have, and as much as their sizes can add up to.
 pub(crate) const MOST: usize = 9;
 
 const LARGEST: u64 = 10_000_000;
 
-// A storey's modal values, held by value: the first `count` items.
+// A storey's modal values, held by value.
 #[derive(Clone, Copy)]
 pub struct ResponseList {
-    pub(crate) items: [Response; MOST],
-    pub(crate) count: usize,
-    ghost within: { count ≤ most },
-    ghost sound: { Sound (take count items) },
+    pub(crate) held: FixedList<Response, MOST>,
+    ghost sound: { Sound (items_of held) },
 }
 
 impl ResponseList {
     // These values as a list, unless they are too many, too large or not of falling periods.
     pub fn new(items: &[Response]) -> Option<ResponseList>
-        ensures { MatchOption result (Sound items.now → ⊥) (λ l. Sound items.now × (take l.count l.items ≡ items.now)) }
+        ensures { MatchOption result (Sound items.now → ⊥) (λ l. Sound items.now × (items_of l.held ≡ items.now)) }
     {
-        if items.len() > MOST {
+        let held = FixedList::from_slice(items)?;
+        if !periods_fall(items) || sum_of_sizes(items) > LARGEST {
             return None;
         }
-        let mut held = [Response {
-            period: 0,
-            value: 0,
-        }; MOST];
-        let mut sum: u64 = 0;
-        for (i, x) in items.iter().enumerate() {
-            if i > 0 && items[i - 1].period <= x.period {
-                return None;
-            }
-            sum += x.value.unsigned_abs() as u64;
-            held[i] = *x;
-        }
-        if sum > LARGEST {
-            return None;
-        }
-        Some(ResponseList {
-            items: held,
-            count: items.len(),
-        })
+        Some(ResponseList { held })
     }
 
     // The values, as a rule takes them.
     pub fn list(&self) -> Responses<'_>
-        ensures { result.items.now ≡ take self.now.count self.now.items }
+        ensures { result.items.now ≡ items_of self.now.held }
     {
         Responses {
-            items: &self.items[..self.count],
+            items: self.held.as_slice(),
         }
     }
+}
+
+// Whether each period is below the one before it.
+fn periods_fall(items: &[Response]) -> bool
+    ensures { result ≡ falls items.now }
+{
+    items.is_sorted_by(|longer, shorter| shorter.period < longer.period)
+}
+
+// The sum of the sizes.
+fn sum_of_sizes(items: &[Response]) -> u64
+    requires { length items.now ≤ most }
+    ensures { result ≡ total items.now }
+{
+    items.iter().map(|x| x.size() as u64).sum()
 }

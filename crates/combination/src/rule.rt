@@ -2,7 +2,7 @@ ghost use Rattle.std.specs.Prelude.{◌≡◌, ℕ, ◌≤◌, List};
 ghost use Rattle.rounding.specs.Roots.{root};
 ghost use Rattle.combination.specs.declared.response.Response.{Response};
 ghost use Rattle.combination.specs.Values.{total};
-ghost use Rattle.combination.specs.Laws.{LoneLaw, ScaleLaw, TriangleLaw, RiseLaw};
+ghost use Rattle.combination.specs.Laws.{Laws};
 
 use crate::response::Response;
 use crate::responses::Responses;
@@ -16,13 +16,8 @@ pub trait Rule {
     fn combine(&self, list: Responses<'_>) -> u32
         ensures { result ≡ root (squared self.now list.entry.items.now) };
 
-    ghost lone: { (s : Self) → LoneLaw (squared s) };
-
-    ghost scale: { (s : Self) → ScaleLaw (squared s) };
-
-    ghost triangle: { (s : Self) → TriangleLaw (squared s) };
-
-    ghost rise: { (s : Self) → RiseLaw (squared s) };
+    // What such a square owes.
+    ghost laws: { (s : Self) → Laws (squared s) };
 }
 
 // By any rule the combined size is at most the sum of the sizes.

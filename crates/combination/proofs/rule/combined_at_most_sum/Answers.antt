@@ -8,5 +8,6 @@ use Rattle.combination.proofs.rule.combined_at_most_sum.Goals as goal
 pub returns : goal.returns
 returns g c =
     let q = g.R.Rule.squared c.args.rule.now in
-    let low : root (g.R.Rule.squared c.args.rule.now c.args.list.items.now) ≤ total c.args.list.items.now = root_at_most _ _ (at_most_total q (g.met.R.Rule.lone c.args.rule.now) (g.met.R.Rule.triangle c.args.rule.now) c.args.list.items.now) in
+    let laws = g.met.R.Rule.laws c.args.rule.now in
+    let low : root (g.R.Rule.squared c.args.rule.now c.args.list.items.now) ≤ total c.args.list.items.now = root_at_most _ _ (at_most_total q laws.lone laws.triangle c.args.list.items.now) in
     record { combined = c.combine.ensures; bounded = omega (arith, low, c.combine.ensures) }
