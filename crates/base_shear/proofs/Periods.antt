@@ -1,5 +1,5 @@
 -- The laws of periods. Assumes nothing.
-use Rattle.std.proofs.Common.{◌≡◌, ℕ, ◌+◌, ◌-◌, ◌*◌, ◌/◌, ◌^◌, ◌<◌, ◌≤◌, true, false, leb, sym, refl, ap, subst, inl, inr, le_trans, mul-le-mul_right, mul-le-mul, div-mul-le_self, arith}
+use Rattle.std.proofs.Common.{◌≡◌, ℕ, ◌+◌, ◌-◌, ◌*◌, ◌/◌, ◌^◌, ◌<◌, ◌≤◌, true, false, leb, refl, ap, subst, inl, inr, le_trans, mul-le-mul_right, mul-le-mul, div-mul-le_self, arith}
 use native.Mathlib.Nat.{pow-le-pow_left, pow-le-pow_right, lt-div-mul-add}
 use Rattle.std.proofs.lemmas.Bool.{ltb-true, lt-ltb, le-ltb, cases_lt, cases_eq, both_ways, leb-true, and_parts}
 use Rattle.rounding.proofs.Order.{sq_mono}
@@ -61,13 +61,6 @@ period_law = record { least = least; some = some }
 -- the period is the only such number
 pub period_only : (f : Formula) (h t : ℕ) → BaseGoes f → IsPeriod f h t → t ≡ period_of f h
 period_only f h t g p = least_only (λ s. passes f h s ≡ true) t (period_of f h) p (least f h g)
-
--- a formula that is known, and the base dimension of the third
-pub known_formula : (f g : Formula) (h t : ℕ) → g ≡ f → BaseGoes g → IsPeriod f h t → (t ≡ period_of g h) × IsPeriod g h t
-known_formula f g h t e b p = let q : IsPeriod g h t = subst (λ (k : Formula). IsPeriod k h t) (sym e) p in (period_only g h t b q, q)
-
-pub base_from : (g : Formula) (d : ℕ) → g ≡ Other d → BaseGoes g → 20 ≤ d
-base_from g d e b = leb-true 20 d (and_parts (leb 20 d) (leb d 5000) (subst BaseGoes e b)).0
 
 -- the third formula: half of the root of q, rounded up, where q is the whole part of 3240 h² / d
 module _ (h d root : ℕ) (p : 1 ≤ d) (low : root * root ≤ 3240 * h * h / d) (high : 3240 * h * h / d < (root + 1) * (root + 1)) where

@@ -4,8 +4,8 @@
 ghost use Rattle.base_shear.specs.Accelerations.{AccelerationLaw};
 ghost use Rattle.base_shear.specs.Periods.{PeriodLaw};
 
-pub mod acceleration;
 pub mod period;
+pub mod shaking;
 mod tables;
 
 // The laws of the definitions that contracts cite, as theorems that a check asks for.
