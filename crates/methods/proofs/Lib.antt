@@ -5,3 +5,4 @@ pub mod ModeFacts
 pub mod Trips
 pub mod RowFacts
 pub mod StoreyFacts
+pub mod Designs

@@ -1,8 +1,7 @@
 -- Facts about lists that several proofs use. Assumes nothing.
-use Rattle.std.proofs.Common.{◌≡◌, ℕ, zero, suc, ◌+◌, ◌<◌, Bool, true, List, [], ◌∷◌, ◌++◌, length, get_or, drop, set, sym, refl, subst, inl, inr, le_of_suc-le-suc, not-suc-le-zero, arith}
+use Rattle.std.proofs.Common.{◌≡◌, ℕ, zero, suc, ◌+◌, ◌<◌, Bool, true, List, [], ◌∷◌, ◌++◌, length, get_or, drop, set, refl, le_of_suc-le-suc, not-suc-le-zero}
 use Rattle.std.proofs.lemmas.List.Edits.{fill_by_more}
-use Rattle.std.proofs.lemmas.List.{get_or-set_same, get_or-set_other}
-use Rattle.std.proofs.lemmas.Bool.{and_parts, and_from, cases_eq, cases_lt}
+use Rattle.std.proofs.lemmas.Bool.{and_parts, and_from}
 use Rattle.methods.specs.Loads.{every}
 
 module _ {A : Type 0} (p : A → Bool) where
@@ -29,14 +28,3 @@ module _ {A : Type 0} (p : A → Bool) where
 -- one step of a loop that writes f k at each place k
 pub fill_with_more : {X : Type 0} (f : ℕ → X) (xs : List X) (i : ℕ) (d v : X) → v ≡ f i → i < length xs → ((k : ℕ) → k < i → get_or xs k d ≡ f k) → (k : ℕ) → k < i + 1 → get_or (set xs i v) k d ≡ f k
 fill_with_more f xs i d v e l below k b = rw e (fill_by_more f xs i d l below k b)
-
--- one step of a loop that writes values of which P holds
-pub fill_where_more : {X : Type 0} (P : X → Type 0) (xs : List X) (i : ℕ) (d v : X) → P v → i < length xs → ((k : ℕ) → k < i → P (get_or xs k d)) → (k : ℕ) → k < i + 1 → P (get_or (set xs i v) k d)
-fill_where_more {X} P xs i d v p l below k b =
-    elim (cases_eq k i) [
-      | inl e ↦ subst (λ (m : ℕ). P (get_or (set xs i v) m d)) (sym e) (subst P (sym (get_or-set_same xs i v d l)) p)
-      | inr ne ↦ subst P (sym (get_or-set_other xs i k v d ne)) (below k (apart ne))
-    ]
-  where
-    apart : (k ≡ i → ⊥) → k < i
-    apart ne = elim (cases_lt k i) [ inl h ↦ h | inr h ↦ absurd (ne (omega arith)) ]

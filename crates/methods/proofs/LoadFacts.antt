@@ -1,13 +1,13 @@
 -- What the ranges of floors say of their sums. Assumes nothing.
-use Rattle.std.proofs.Common.{◌≡◌, ℕ, zero, suc, ◌+◌, ◌*◌, ◌<◌, ◌≤◌, true, leb, List, [], ◌∷◌, length, get_or, take, drop, ap, ◌∙◌, subst, le_refl, not-suc-le-zero, mul-le-mul, mul-le-mul_left, arith, get_or-take}
-use Rattle.std.proofs.lemmas.List.{at_drop_more}
+use Rattle.std.proofs.Common.{◌≡◌, ℕ, ◌+◌, ◌*◌, ◌≤◌, true, leb, List, [], ◌∷◌, sym, refl, ap, ◌∙◌, mul-le-mul, mul-le-mul_left, arith}
+use Rattle.std.specs.List.{sum_by}
+use Rattle.std.proofs.lemmas.List.Sums.{sum_by-cons}
 use Rattle.std.proofs.lemmas.Bool.{and_parts, leb-true}
 use Rattle.standard.specs.Sites.{within}
 use Rattle.formulas.specs.declared.floor.Floor.{Floor}
 use Rattle.formulas.specs.Buildings.{Built, W}
 use Rattle.formulas.specs.Static.{S}
-use Rattle.methods.specs.Loads.{every, in_range, nothing}
-use Rattle.methods.proofs.Lists.{every_at}
+use Rattle.methods.specs.Loads.{every, in_range}
 
 pub record Ranged (f : Floor) : Type 0 where
   pub low : 20 ≤ f.height
@@ -39,28 +39,7 @@ moment_size (f ∷ fs) e =
     let b : f.weight * (f.height * f.height) ≤ f.weight * (2000 * 2000) = mul-le-mul_left f.weight a in
     omega (arith, b, moment_size fs h.1)
 
--- the floors that a view holds, by place
-module _ (xs : List Floor) (n k : ℕ) (l : k < n) (held : length (take n xs) ≡ n) where
-  pub held_at : get_or (take n xs) k nothing ≡ get_or xs k nothing
-  held_at = get_or-take n xs k nothing l
-
-  pub held_ranged : every in_range (take n xs) ≡ true → Ranged (get_or xs k nothing)
-  held_ranged e = subst Ranged held_at (ranged _ (every_at in_range (take n xs) k nothing e (omega arith)))
-
-  pub moment_more : S (drop k (take n xs)) ≡ (get_or xs k nothing).weight * ((get_or xs k nothing).height * (get_or xs k nothing).height) + S (drop (k + 1) (take n xs))
-  moment_more = at_drop_more S (take n xs) k nothing (omega arith) ∙ ap (λ (f : Floor). f.weight * (f.height * f.height) + S (drop (k + 1) (take n xs))) held_at
-
--- sums over what is left
-pub sum_split : (fs : List Floor) (k : ℕ) → S (drop k fs) ≤ S fs
-sum_split fs zero = le_refl _
-sum_split [] (suc k) = le_refl _
-sum_split (f ∷ fs) (suc k) = omega (arith, sum_split fs k)
-
--- some floor has a moment
-pub moment_some : (fs : List Floor) → every in_range fs ≡ true → 1 ≤ length fs → 1 ≤ S fs
-moment_some [] e l = absurd (not-suc-le-zero l)
-moment_some (f ∷ fs) e l =
-    let r = ranged f (and_parts (in_range f) (every in_range fs) e).0 in
-    let a : 20 * 20 ≤ f.height * f.height = mul-le-mul r.low r.low in
-    let b : 100 * (20 * 20) ≤ f.weight * (f.height * f.height) = mul-le-mul r.light a in
-    omega arith
+-- what the moments of the floors add up to
+pub moments : (fs : List Floor) → S fs ≡ sum_by (λ f. f.weight * (f.height * f.height)) fs
+moments [] = refl
+moments (f ∷ fs) = ap (λ (n : ℕ). f.weight * (f.height * f.height) + n) (moments fs) ∙ sym (sum_by-cons (λ (f : Floor). f.weight * (f.height * f.height)) f fs)

@@ -1,17 +1,16 @@
 -- What a mode that can be used says of its sums. Assumes nothing.
-use Rattle.std.proofs.Common.{◌≡◌, ℕ, zero, suc, ◌+◌, ◌*◌, ◌<◌, ◌≤◌, Bool, true, false, not, eqb, leb, List, [], ◌∷◌, length, get_or, take, drop, ℤ, pos, ◌+ℤ◌, ◌*ℤ◌, nat_abs, refl, ap, ◌∙◌, subst, inl, inr, le_refl, not-suc-le-zero, mul-le-mul, mul-le-mul_left, arith}
-use Rattle.std.proofs.lemmas.List.{drop_more, get_or-take}
+use Rattle.std.proofs.Common.{◌≡◌, ℕ, zero, suc, ◌+◌, ◌*◌, ◌^◌, ◌<◌, ◌≤◌, Bool, true, false, not, eqb, leb, ◌⊎◌, List, [], ◌∷◌, length, drop, ℤ, pos, ◌+ℤ◌, ◌*ℤ◌, nat_abs, sym, refl, ap, subst, inl, inr, le_refl, mul-le-mul, mul-le-mul_left, arith}
 use Rattle.std.proofs.lemmas.Bool.{and_parts, and_cases, leb-true, eqb-true, eqb-false, ltb-false, not-true}
 use Rattle.rounding.specs.Sums.{first, second_n}
 use Rattle.rounding.proofs.Order.{nat_abs_add, nat_abs_mul_le}
 use Rattle.standard.specs.Sites.{within}
 use Rattle.formulas.specs.declared.floor.Floor.{Floor}
-use Rattle.formulas.specs.Buildings.{Mode, W}
+use Rattle.formulas.specs.Buildings.{Mode, W, heaviest}
 use Rattle.formulas.specs.Modal.{paired, M}
 use Rattle.formulas.proofs.Sums.{sum_n_drop}
-use Rattle.methods.specs.Loads.{every, in_range, nothing}
+use Rattle.methods.specs.Loads.{every, in_range}
 use Rattle.methods.specs.Shapes.{outside, all_zero, usable}
-use Rattle.methods.proofs.Lists.{every_at, every_drop}
+use Rattle.methods.proofs.Lists.{every_drop}
 use Rattle.methods.proofs.LoadFacts.{ranged}
 
 -- every ordinate is within its range
@@ -37,47 +36,6 @@ fit n m e =
 pub low_size : (y : ℤ) → not (outside y) ≡ true → nat_abs y ≤ 4000
 low_size y e = ltb-false 4000 (nat_abs y) (not-true _ e)
 
--- ---- sums of pairs, one step on
-
-module _ (fs : List Floor) (φ : List ℤ) (k : ℕ) (l : k < length fs) (m : k < length φ) where
-  pub paired_more : paired (drop k fs) (drop k φ) ≡ ((get_or fs k nothing).weight, get_or φ k (pos 0)) ∷ paired (drop (k + 1) fs) (drop (k + 1) φ)
-  paired_more = λ i. paired (drop_more fs k nothing l i) (drop_more φ k (pos 0) m i)
-
-  pub first_more : first (paired (drop k fs) (drop k φ)) ≡ pos (get_or fs k nothing).weight *ℤ get_or φ k (pos 0) +ℤ first (paired (drop (k + 1) fs) (drop (k + 1) φ))
-  first_more = ap first paired_more
-
-  pub second_more : second_n (paired (drop k fs) (drop k φ)) ≡ (get_or fs k nothing).weight * (nat_abs (get_or φ k (pos 0)) * nat_abs (get_or φ k (pos 0))) + second_n (paired (drop (k + 1) fs) (drop (k + 1) φ))
-  second_more = ap second_n paired_more
-
--- the same of the floors and ordinates that a view holds, by place
-module _ (xs : List Floor) (ys : List ℤ) (n k : ℕ) (l : k < n) (held : length (take n xs) ≡ n) (counted : length (take n ys) ≡ n) where
-  pub held_first_more : first (paired (drop k (take n xs)) (drop k (take n ys))) ≡ pos (get_or xs k nothing).weight *ℤ get_or ys k (pos 0) +ℤ first (paired (drop (k + 1) (take n xs)) (drop (k + 1) (take n ys)))
-  held_first_more =
-      first_more (take n xs) (take n ys) k (omega arith) (omega arith)
-      ∙ (λ i. pos (get_or-take n xs k nothing l i).weight *ℤ get_or-take n ys k (pos 0) l i +ℤ first (paired (drop (k + 1) (take n xs)) (drop (k + 1) (take n ys))))
-
-  pub held_second_more : second_n (paired (drop k (take n xs)) (drop k (take n ys))) ≡ (get_or xs k nothing).weight * (nat_abs (get_or ys k (pos 0)) * nat_abs (get_or ys k (pos 0))) + second_n (paired (drop (k + 1) (take n xs)) (drop (k + 1) (take n ys)))
-  held_second_more =
-      second_more (take n xs) (take n ys) k (omega arith) (omega arith)
-      ∙ (λ i. (get_or-take n xs k nothing l i).weight * (nat_abs (get_or-take n ys k (pos 0) l i) * nat_abs (get_or-take n ys k (pos 0) l i)) + second_n (paired (drop (k + 1) (take n xs)) (drop (k + 1) (take n ys))))
-
-pub held_low : (ys : List ℤ) (n k : ℕ) → k < n → length (take n ys) ≡ n → low (take n ys) ≡ true → nat_abs (get_or ys k (pos 0)) ≤ 4000
-held_low ys n k l counted e = subst (λ (y : ℤ). nat_abs y ≤ 4000) (get_or-take n ys k (pos 0) l) (low_size (get_or (take n ys) k (pos 0)) (every_at (λ y. not (outside y)) (take n ys) k (pos 0) e (omega arith)))
-
--- nothing is left of the pairs
-pub paired_none : (fs : List Floor) (φ : List ℤ) (k : ℕ) → length fs ≤ k → paired (drop k fs) (drop k φ) ≡ []
-paired_none [] φ zero l = refl
-paired_none [] φ (suc k) l = refl
-paired_none (f ∷ fs) φ zero l = absurd (not-suc-le-zero l)
-paired_none (f ∷ fs) [] (suc k) l = ap (λ (gs : List Floor). paired gs []) (nil fs k (omega arith))
-  where
-    nil : (gs : List Floor) (k : ℕ) → length gs ≤ k → drop k gs ≡ []
-    nil [] zero l = refl
-    nil [] (suc k) l = refl
-    nil (g ∷ gs) zero l = absurd (not-suc-le-zero l)
-    nil (g ∷ gs) (suc k) l = nil gs k (omega arith)
-paired_none (f ∷ fs) (y ∷ φ) (suc k) l = paired_none fs φ k (omega arith)
-
 -- ---- sizes
 
 pub first_low : (fs : List Floor) (φ : List ℤ) → low φ ≡ true → nat_abs (first (paired fs φ)) ≤ 4000 * W fs
@@ -88,9 +46,6 @@ first_low (f ∷ fs) (y ∷ φ) e =
     let a : nat_abs (pos f.weight *ℤ y) ≤ f.weight * 4000 = nat_abs_mul_le (pos f.weight) y f.weight 4000 (le_refl _) (low_size y h.0) in
     omega (arith, a, nat_abs_add (pos f.weight *ℤ y) (first (paired fs φ)), first_low fs φ h.1)
 
-pub first_rest_low : (fs : List Floor) (φ : List ℤ) (k : ℕ) → low φ ≡ true → nat_abs (first (paired (drop k fs) (drop k φ))) ≤ 4000 * W fs
-first_rest_low fs φ k e = omega (arith, first_low (drop k fs) (drop k φ) (every_drop (λ y. not (outside y)) φ k e), sum_n_drop (λ (f : Floor). f.weight) k fs)
-
 pub second_low : (fs : List Floor) (φ : List ℤ) → low φ ≡ true → M fs φ ≤ 16000000 * W fs
 second_low [] φ e = omega arith
 second_low (f ∷ fs) [] e = omega arith
@@ -100,6 +55,60 @@ second_low (f ∷ fs) (y ∷ φ) e =
     let a : nat_abs y * nat_abs y ≤ 4000 * 4000 = mul-le-mul s s in
     let b : f.weight * (nat_abs y * nat_abs y) ≤ f.weight * (4000 * 4000) = mul-le-mul_left f.weight a in
     omega (arith, b, second_low fs φ h.1)
+
+-- floors and ordinates that are left to be added up
+pub record Left (fs : List Floor) (φ : List ℤ) : Type 0 where
+  pub ranged : every in_range fs ≡ true
+  pub lows : low φ ≡ true
+  pub light : W fs ≤ heaviest
+
+pub left_first : (fs : List Floor) (φ : List ℤ) → Left fs φ → nat_abs (first (paired fs φ)) ≤ 2000000000
+left_first fs φ left = omega (arith, first_low fs φ left.lows, left.light)
+
+pub left_second : (fs : List Floor) (φ : List ℤ) → Left fs φ → second_n (paired fs φ) < 2 ^ 63
+left_second fs φ left = omega (arith, second_low fs φ left.lows, left.light)
+
+pub left_from : (fs : List Floor) (φ : List ℤ) (k : ℕ) → Left fs φ → Left (drop k fs) (drop k φ)
+left_from fs φ k left =
+    record {
+      ranged = every_drop in_range fs k left.ranged;
+      lows = every_drop (λ y. not (outside y)) φ k left.lows;
+      light = omega (arith, sum_n_drop (λ (f : Floor). f.weight) k fs, left.light);
+    }
+
+pub left_as : (fs gs : List Floor) (φ ψ : List ℤ) → gs ≡ fs → ψ ≡ φ → Left fs φ → Left gs ψ
+left_as fs gs φ ψ e h left = subst (λ (ys : List ℤ). Left gs ys) (sym h) (subst (λ (hs : List Floor). Left hs φ) (sym e) left)
+
+-- one floor and its ordinate, and what is left then
+module _ (fs fs' : List Floor) (φ φ' : List ℤ) (f : Floor) (y : ℤ) (floors : fs ≡ f ∷ fs') (ordinates : φ ≡ y ∷ φ') (left : Left fs φ) where
+  left_here : Left (f ∷ fs') (y ∷ φ')
+  left_here = left_as fs (f ∷ fs') φ (y ∷ φ') (sym floors) (sym ordinates) left
+
+  pub left_heavy : f.weight ≤ 100000
+  left_heavy = (ranged f (and_parts (in_range f) (every in_range fs') left_here.ranged).0).heavy
+
+  pub left_low : nat_abs y ≤ 4000
+  left_low = low_size y (and_parts (not (outside y)) (low φ') left_here.lows).0
+
+  pub left_more : Left fs' φ'
+  left_more =
+      record {
+        ranged = (and_parts (in_range f) (every in_range fs') left_here.ranged).1;
+        lows = (and_parts (not (outside y)) (low φ') left_here.lows).1;
+        light = omega (arith, left_here.light);
+      }
+
+  pub first_more : first (paired fs φ) ≡ pos f.weight *ℤ y +ℤ first (paired fs' φ')
+  first_more = λ i. first (paired (floors i) (ordinates i))
+
+  pub second_more : second_n (paired fs φ) ≡ f.weight * (nat_abs y * nat_abs y) + second_n (paired fs' φ')
+  second_more = λ i. second_n (paired (floors i) (ordinates i))
+
+-- nothing is left
+pub paired_none : (fs : List Floor) (φ : List ℤ) → (fs ≡ []) ⊎ (φ ≡ []) → paired fs φ ≡ []
+paired_none fs φ (inl e) = ap (λ (gs : List Floor). paired gs φ) e
+paired_none [] φ (inr e) = refl
+paired_none (f ∷ fs) φ (inr e) = ap (λ (ys : List ℤ). paired (f ∷ fs) ys) e
 
 -- a floor that moves has a part in the sum of squares
 pub second_some : (fs : List Floor) (φ : List ℤ) → every in_range fs ≡ true → length φ ≡ length fs → all_zero φ ≡ false → 1 ≤ M fs φ

@@ -1,5 +1,5 @@
 -- The modal shears of a storey are a list that a rule takes. Assumes nothing.
-use Rattle.std.proofs.Common.{◌≡◌, ℕ, ◌≤◌, true, ltb, List, [], ◌∷◌, length, take, refl, arith}
+use Rattle.std.proofs.Common.{◌≡◌, ℕ, ◌≤◌, true, ltb, List, [], ◌∷◌, length, refl, arith}
 use Rattle.std.specs.List.{AllByRecursion}
 use Rattle.std.proofs.lemmas.List.{length-map}
 use Rattle.std.proofs.lemmas.Bool.{and_parts, and_from}
@@ -17,7 +17,7 @@ use Rattle.methods.specs.declared.loads.Loads.{Loads}
 use Rattle.methods.specs.declared.shapes.Shapes.{Shapes}
 use Rattle.methods.specs.Loads.{every}
 use Rattle.methods.specs.Shapes.{falls_from, mode_of, usable}
-use Rattle.methods.specs.Views.{floors_of_loads, floors_in, modes_in}
+use Rattle.methods.specs.Views.{floors_in, modes_in}
 use Rattle.methods.proofs.ModeFacts.{fit}
 use Rattle.methods.proofs.RowFacts.{mass_some}
 
@@ -34,16 +34,16 @@ unfolding storey_values_of
 values_count a fs ms i = length-map ms _
 
 -- each mode has an acceleration, and moves some floor
-all_usable : (s : SiteTerms) (sa : ℕ → Fraction) (l : Loads) → SpectrumLaw sa → (ms : List Mode) → every (usable l.count) ms ≡ true → AllByRecursion (λ m. Acceleration (acceleration_of s sa m.period) × (1 ≤ M (floors_of_loads l) m.ordinates)) ms
+all_usable : (s : SiteTerms) (sa : ℕ → Fraction) (l : Loads) → SpectrumLaw sa → (ms : List Mode) → every (usable (length l.floors.now)) ms ≡ true → AllByRecursion (λ m. Acceleration (acceleration_of s sa m.period) × (1 ≤ M l.floors.now m.ordinates)) ms
 all_usable s sa l law [] e = tt
 all_usable s sa l law (m ∷ ms) e =
-    let h = and_parts (usable l.count m) (every (usable l.count) ms) e in
-    let f = fit l.count m h.0 in
+    let h = and_parts (usable (length l.floors.now) m) (every (usable (length l.floors.now)) ms) e in
+    let f = fit (length l.floors.now) m h.0 in
     ((bounded s sa m.period law f.some f.few, mass_some l m h.0), all_usable s sa l law ms h.1)
 
 module _ (s : SiteTerms) (sa : ℕ → Fraction) (law : SpectrumLaw sa) (x : Shapes) (i : ℕ) where
   few : length (modes_in x) ≤ 9
-  few = omega (arith, length-map (take x.count x.rows) (mode_of x.loads.count), x.held, x.few)
+  few = omega (arith, length-map x.rows.now (mode_of (length x.loads.floors.now)), x.few)
 
   pub values_small : total (storey_values_of (acceleration_of s sa) (floors_in x) (modes_in x) i) ≤ 6480000
   values_small = total_size_lem (acceleration_of s sa) (floors_in x) (modes_in x) i (few, all_usable s sa x.loads law (modes_in x) x.fit) (omega (arith, x.loads.summed, x.loads.light))

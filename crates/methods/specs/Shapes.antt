@@ -9,13 +9,17 @@ use Rattle.methods.specs.Loads.{every}
 abbrev pub most_modes : ℕ
 most_modes = 9
 
+-- the mode of a period with these ordinates
+abbrev pub mode_by : ℕ → List ℤ → Mode
+mode_by t ys = record { period = t; ordinates = ys }
+
 -- the mode of a row, with an ordinate for each of n floors
 abbrev pub mode_of : ℕ → ModeRow → Mode
-mode_of n r = record { period = r.period; ordinates = take n r.ordinates }
+mode_of n r = mode_by r.period (take n r.ordinates)
 
--- the modes of the first `count` rows
-abbrev pub modes_of : ℕ → ℕ → List ModeRow → List Mode
-modes_of n count rows = map (mode_of n) (take count rows)
+-- the modes of rows
+abbrev pub modes_of : ℕ → List ModeRow → List Mode
+modes_of n rows = map (mode_of n) rows
 
 -- an ordinate outside its range
 abbrev pub outside : ℤ → Bool

@@ -2,32 +2,29 @@
 ghost use Rattle.std.specs.Prelude.{◌≡◌};
 ghost use Rattle.methods.specs.Loads.{roof_of};
 ghost use Rattle.methods.specs.Outcomes.{BaseAnswers};
-ghost use Rattle.methods.specs.Views.{floors_of_loads};
 
 use crate::loads::Loads;
-use base_shear::acceleration::code_base_shear;
+use crate::scale::BaseShear;
+use base_shear::shaking::Shaking;
 use spectra::spectrum::Spectrum;
 use standard::fault::Fault;
 use standard::measures::Height;
-use standard::site::Site;
 
 // The height of the roof floor.
-pub(crate) fn roof_height(loads: &Loads) -> Height
-    ensures { result.decimetres ≡ roof_of (floors_of_loads loads.now) }
+pub(crate) fn roof_height(loads: &Loads<'_>) -> Height
+    ensures { result.value ≡ roof_of loads.now.floors.now }
 {
-    Height {
-        decimetres: loads.floors[loads.count - 1].height,
-    }
+    let roof = loads.floors.last().unwrap();
+    Height { value: roof.height }
 }
 
 // The nearest to A(Ta) × W, or that the period is too long.
 pub(crate) fn base_shear_of<C: Spectrum>(
-    site: &Site,
-    spectrum: &C,
-    loads: &Loads,
-) -> Result<u64, Fault>
-    ensures { BaseAnswers site.now.terms (C.Spectrum.ordinate spectrum.now) (floors_of_loads loads.now) result }
+    shaking: &Shaking<'_, C>,
+    loads: &Loads<'_>,
+) -> Result<BaseShear, Fault>
+    ensures { BaseAnswers shaking.now.site.now.terms (C.Spectrum.ordinate shaking.now.spectrum.now) loads.now.floors.now result }
 {
-    let base = code_base_shear(site, spectrum, roof_height(loads), loads.weight)?;
-    Ok(base)
+    let value = shaking.code_base_shear(roof_height(loads), loads.weight)?;
+    Ok(BaseShear { value })
 }

@@ -2,12 +2,12 @@
 #![tactic(auto)]
 
 mod base;
-mod forces;
-mod levers;
 pub mod loads;
 pub mod modal;
 pub mod modes;
+mod motion;
 pub mod outcome;
+mod scale;
 pub mod shapes;
 pub mod statics;
 mod storeys;

@@ -1,38 +1,40 @@
 // The static method.
-ghost use Rattle.std.specs.Prelude.{◌≡◌, ℕ, ◌+◌, ◌<◌, ◌≤◌, slice_index};
-ghost use Rattle.formulas.specs.Static.{S as moment, static_shear};
-ghost use Rattle.methods.specs.Outcomes.{StaticAnswers};
+ghost use Rattle.std.specs.Prelude.{◌≡◌, ◌*◌, length};
+ghost use Rattle.formulas.specs.Static.{S, static_shear};
+ghost use Rattle.methods.specs.Outcomes.{shears_up_to, StaticAnswers};
 ghost use Rattle.methods.specs.Refusals.{static_limit_of};
-ghost use Rattle.methods.specs.Views.{floors_of_loads};
 
 use crate::base::{base_shear_of, roof_height};
-use crate::forces::differences;
 use crate::loads::{FLOORS, Loads};
-use crate::outcome::Outcome;
+use crate::outcome::{Outcome, outcome_of};
+use crate::scale::{BaseShear, Scale};
+use arrayvec::ArrayVec;
+use base_shear::shaking::Shaking;
+use formulas::floor::Floor;
 use rounding::{Divisor, nearest_quotient};
 use spectra::spectrum::Spectrum;
 use standard::fault::{Fault, Ground};
-use standard::site::Site;
 use standard::terms::{Plan, Zone};
 
 // Shears and forces by the static method, or why it cannot be used.
-pub fn run_static<C: Spectrum>(site: &Site, spectrum: &C, loads: &Loads) -> Result<Outcome, Fault>
-    ensures { StaticAnswers site.now.terms (C.Spectrum.ordinate spectrum.now) (floors_of_loads loads.now) result }
+pub fn run_static<C: Spectrum>(
+    shaking: &Shaking<'_, C>,
+    loads: &Loads<'_>,
+) -> Result<Outcome, Fault>
+    ensures { StaticAnswers shaking.now.site.now.terms (C.Spectrum.ordinate shaking.now.spectrum.now) loads.now.floors.now result }
 {
-    let base = base_shear_of(site, spectrum, loads)?;
+    let base = base_shear_of(shaking, loads)?;
     let roof = roof_height(loads);
-    if roof.decimetres > static_limit(site.terms.zone, site.terms.plan) {
-        return Err(Fault {
-            ground: Ground::TooHighForStatic,
-            place: roof.decimetres as u32,
-        });
+    if roof.value > static_limit(shaking.site.terms.zone, shaking.site.terms.plan) {
+        return Err(Ground::TooHighForStatic.at(roof.value as u32));
     }
     let shears = static_shears(loads, base);
-    Ok(Outcome {
-        combined: shears,
-        design: shears,
-        forces: differences(loads.count, &shears),
-    })
+    let combined = shears.as_slice();
+    let scale = Scale {
+        base: combined[0],
+        code: base,
+    };
+    Ok(outcome_of(combined, scale))
 }
 
 // The height of the roof up to which the static method may be used.
@@ -47,32 +49,32 @@ fn static_limit(zone: Zone, plan: Plan) -> u16
     }
 }
 
-// The sum of weight × height squared over all floors.
-fn moment_of(loads: &Loads) -> u64
-    ensures { result ≡ moment (floors_of_loads loads.now) }
+// The weight × height squared of a floor.
+fn moment(floor: &Floor) -> u64
+    ensures { result ≡ floor.now.weight * (floor.now.height * floor.now.height) }
 {
-    let mut sum: u64 = 0;
-    for i in 0..loads.count {
-        let floor = loads.floors[i];
-        sum += floor.weight as u64 * (floor.height as u64 * floor.height as u64);
-    }
-    sum
+    floor.weight as u64 * (floor.height as u64 * floor.height as u64)
+}
+
+// The sum of weight × height squared over all floors.
+fn whole_moment(loads: &Loads<'_>) -> u64
+    ensures { result ≡ S loads.now.floors.now }
+{
+    loads.floors.iter().map(moment).sum()
 }
 
 // The shear of each storey at a base shear.
-fn static_shears(loads: &Loads, base: u64) -> [u64; FLOORS]
-    requires { base ≤ 720000 }
-    ensures { (k : ℕ) → k < loads.now.count → slice_index result k ≡ static_shear base (floors_of_loads loads.now) (k + 1) }
+fn static_shears(loads: &Loads<'_>, base: BaseShear) -> ArrayVec<u32, FLOORS>
+    ensures { result.items ≡ shears_up_to (static_shear base.value loads.now.floors.now) (length loads.now.floors.now) }
 {
     let whole = Divisor {
-        value: moment_of(loads),
+        value: whole_moment(loads),
     };
-    let mut shears = [0; FLOORS];
+    let mut shears = ArrayVec::new();
     let mut rest = whole.value;
-    for i in 0..loads.count {
-        let floor = loads.floors[i];
-        shears[i] = nearest_quotient(base * rest, whole);
-        rest -= floor.weight as u64 * (floor.height as u64 * floor.height as u64);
+    for floor in loads.floors {
+        shears.push(nearest_quotient(base.value * rest, whole) as u32);
+        rest -= moment(floor);
     }
     shears
 }

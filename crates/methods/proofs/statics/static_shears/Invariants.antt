@@ -1,10 +1,12 @@
-use Rattle.std.proofs.Common.{◌≡◌, ℕ, ◌+◌, ◌<◌, length, get_or, drop}
+use Rattle.std.proofs.Common.{◌≡◌, drop}
+use Rattle.arrayvec.specs.ArrayVec.{array_vec_len}
 use Rattle.formulas.specs.Static.{S, static_shear}
-use Rattle.methods.specs.Views.{floors_of_loads}
+use Rattle.methods.specs.Outcomes.{shears_up_to}
 use Rattle.methods.proofs.statics.static_shears.Given as goal
 
-abbrev pub invariant-loop-i : goal.invariant-loop-i
-invariant-loop-i l =
-    (length l.shears ≡ 40) ×
-    (l.rest ≡ S (drop l.i (floors_of_loads l.loads))) ×
-    ((k : ℕ) → k < l.i → get_or l.shears k 0 ≡ static_shear l.base (floors_of_loads l.loads) (k + 1))
+abbrev pub invariant-loop-floor : goal.invariant-loop-floor
+invariant-loop-floor l = record {
+  counted : array_vec_len l.shears ≡ l.floor-index;
+  left : l.rest ≡ S (drop l.floor-index l.loads.floors.now);
+  taken : l.shears.items ≡ shears_up_to (static_shear l.base.value l.loads.floors.now) l.floor-index;
+}
