@@ -1,7 +1,7 @@
 -- The laws of the floors with the weights that count, which are all that the rest uses. Assumes nothing.
 use Rattle.std.proofs.Common.{◌≡◌, ◌≤◌, true, false, List, length, ℤ, refl}
 use Rattle.formulas.specs.declared.floor.Floor.{Floor}
-use Rattle.formulas.specs.Buildings.{Built, W, heaviest}
+use Rattle.formulas.specs.Buildings.{Built}
 use Rattle.formulas.specs.Modal.{M}
 use Rattle.methods.specs.Loads.{every, in_range, roof_of}
 use Rattle.methods.specs.Shapes.{all_zero}
@@ -20,10 +20,6 @@ counted_roof fs = refl
 pub counted_built : (fs : List Floor) → every in_range fs ≡ true → Built (counted fs)
 unfolding counted
 counted_built fs e = built fs e
-
-pub counted_light : (fs : List Floor) → W fs ≤ heaviest → W (counted fs) ≤ heaviest
-unfolding counted
-counted_light fs h = h
 
 -- a mode that is not still moves some weight
 pub counted_moves : (fs : List Floor) (φ : List ℤ) → every in_range fs ≡ true → length φ ≡ length fs → all_zero φ ≡ false → 1 ≤ M (counted fs) φ

@@ -70,3 +70,5 @@ weight_reweighed fs k w l = omega (arith, sum_n_set (λ f. f.weight) fs k (recor
 
 pub length_reweighed : (fs : List Floor) (k w : ℕ) → length (reweighed fs k w) ≡ length fs
 length_reweighed fs k w = length-set fs k _
+
+pub ruleset reweighing = (weight_within, length_reweighed, rises_reweighed, ranged_reweighed, weight_reweighed)

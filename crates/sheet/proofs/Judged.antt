@@ -1,79 +1,53 @@
--- What an accepted call tells of the numbers that decide it. Assumes nothing.
-use Rattle.std.proofs.Common.{◌≡◌, ℕ, ◌+◌, ◌-◌, ◌<◌, ◌≤◌, Bool, true, false, not, ◌&&◌, eqb, ltb, leb, Ok, sym, ap, ◌∙◌, arith}
-use Rattle.std.proofs.lemmas.Bool.{or_parts, not-false, leb-false, ltb-false, and_parts, leb-true, eqb-true, eqb-false}
+-- What an accepted call tells of the floors and modes that the sheet holds. Assumes nothing.
+use Rattle.std.proofs.Common.{◌≡◌, ℕ, ◌<◌, ◌≤◌, true, false, not, eqb, leb, List, length, ℤ, is_some, Ok, sym}
+use Rattle.std.proofs.lemmas.Bool.{or_parts, not-false, leb-false, and_parts, leb-true, eqb-true}
 use Rattle.standard.specs.Faults.{verdict}
 use Rattle.standard.specs.Sites.{within}
 use Rattle.standard.proofs.Verdicts.{verdict_law}
-use Rattle.formulas.specs.Buildings.{heaviest}
-use Rattle.methods.specs.Loads.{most_floors}
-use Rattle.methods.specs.Shapes.{most_modes}
-use Rattle.sheet.specs.Ledgers.{floor_grounds, reweigh_grounds, mode_grounds, strike_grounds}
+use Rattle.formulas.specs.declared.floor.Floor.{Floor}
+use Rattle.formulas.specs.Buildings.{Mode}
+use Rattle.methods.specs.Loads.{roof_of}
+use Rattle.methods.specs.Shapes.{all_zero}
+use Rattle.sheet.specs.Ledgers.{floor, mode, strike, refusals}
+use Rattle.sheet.specs.Modes.{first_outside, not_below_last}
 
-pub record FloorTaken (n roof sum m h w : ℕ) : Type 0 where
+between : (low high x : ℕ) → within low high x ≡ true → (low ≤ x) × (x ≤ high)
+between low high x e = let q = and_parts (leb low x) (leb x high) e in (leb-true _ _ q.0, leb-true _ _ q.1)
+
+pub record FloorTaken (fs : List Floor) (h w : ℕ) : Type 0 where
   pub height : within 20 2000 h ≡ true
-  pub above : roof < h
+  pub above : roof_of fs < h
   pub weight : within 100 100000 w ≡ true
-  pub light : sum + w ≤ heaviest
-  pub room : n < most_floors
-  pub still : m ≡ 0
 
-pub floor_taken : (n roof sum m h w : ℕ) → verdict (floor_grounds n roof sum m h w) ≡ Ok tt → FloorTaken n roof sum m h w
-floor_taken n roof sum m h w e =
-    let a = verdict_law.accepted (floor_grounds n roof sum m h w) e in
-    let p = or_parts (not (within 20 2000 h)) (leb h roof) a.0 in
+pub floor_taken : (fs : List Floor) (ms : List Mode) (h w : ℕ) → Ok tt ≡ verdict (refusals fs ms (floor h w)) → FloorTaken fs h w
+floor_taken fs ms h w e =
+    let a = verdict_law.accepted (refusals fs ms (floor h w)) (sym e) in
+    let p = or_parts (not (within 20 2000 h)) (leb h (roof_of fs)) a.0 in
     record {
       height = not-false _ p.0;
       above = leb-false _ _ p.1;
       weight = not-false _ a.1.0;
-      light = ltb-false _ _ a.1.1.0;
-      room = leb-false _ _ a.1.1.1.0;
-      still = (let z = ltb-false 0 m a.1.1.1.1.0 in omega arith);
     }
 
-pub record ReweighTaken (n sum old i w : ℕ) : Type 0 where
-  pub weight : within 100 100000 w ≡ true
-  pub light : sum - old + w ≤ heaviest
-  pub low : 1 ≤ i
-  pub high : i ≤ n
-
-pub reweigh_taken : (n sum old i w : ℕ) → verdict (reweigh_grounds n sum old i w) ≡ Ok tt → ReweighTaken n sum old i w
-reweigh_taken n sum old i w e =
-    let a = verdict_law.accepted (reweigh_grounds n sum old i w) e in
-    let there = not-false (within 1 n i) a.1.1.0 in
-    let q = and_parts (leb 1 i) (leb i n) there in
-    record {
-      weight = not-false _ a.0;
-      light = ltb-false _ _ (ap (λ (b : Bool). b && ltb heaviest (sum - old + w)) (sym there) ∙ a.1.0);
-      low = leb-true _ _ q.0;
-      high = leb-true _ _ q.1;
-    }
-
-pub record ModeTaken (n m p c : ℕ) (notBelow : Bool) (out : ℕ) (zeros : Bool) : Type 0 where
-  pub some : 1 ≤ n
-  pub count : c ≡ n
+pub record ModeTaken (fs : List Floor) (ms : List Mode) (p c : ℕ) (ys : List ℤ) : Type 0 where
+  pub count : c ≡ length fs
   pub period : within 1 4000 p ≡ true
-  pub below : notBelow ≡ false
-  pub inside : out ≡ 0
-  pub moves : zeros ≡ false
-  pub room : m < most_modes
+  pub below : not_below_last p ms ≡ false
+  pub inside : is_some (first_outside ys) ≡ false
+  pub moves : all_zero ys ≡ false
 
-pub mode_taken : (n m p c : ℕ) (notBelow : Bool) (out : ℕ) (zeros : Bool) → verdict (mode_grounds n m p c notBelow out zeros) ≡ Ok tt → ModeTaken n m p c notBelow out zeros
-mode_taken n m p c notBelow out zeros e =
-    let a = verdict_law.accepted (mode_grounds n m p c notBelow out zeros) e in
-    let q = or_parts (eqb n 0) (not (eqb c n)) a.0 in
-    let r = or_parts (not (within 1 4000 p)) notBelow a.1.0 in
+pub mode_taken : (fs : List Floor) (ms : List Mode) (p c : ℕ) (ys : List ℤ) → Ok tt ≡ verdict (refusals fs ms (mode p c ys)) → ModeTaken fs ms p c ys
+mode_taken fs ms p c ys e =
+    let a = verdict_law.accepted (refusals fs ms (mode p c ys)) (sym e) in
+    let q = or_parts (eqb (length fs) 0) (not (eqb c (length fs))) a.0 in
+    let r = or_parts (not (within 1 4000 p)) (not_below_last p ms) a.1.0 in
     record {
-      some = (let z = eqb-false n 0 q.0 in omega (arith, z));
-      count = eqb-true c n (not-false _ q.1);
+      count = eqb-true c (length fs) (not-false _ q.1);
       period = not-false _ r.0;
       below = r.1;
-      inside = (let z = ltb-false 0 out a.1.1.0 in omega arith);
+      inside = a.1.1.0;
       moves = a.1.1.1.0;
-      room = leb-false _ _ a.1.1.1.1.0;
     }
 
-pub strike_taken : (m k : ℕ) → verdict (strike_grounds m k) ≡ Ok tt → (1 ≤ k) × (k ≤ m)
-strike_taken m k e =
-    let a = verdict_law.accepted (strike_grounds m k) e in
-    let q = and_parts (leb 1 k) (leb k m) (not-false (within 1 m k) a.0) in
-    (leb-true _ _ q.0, leb-true _ _ q.1)
+pub strike_taken : (fs : List Floor) (ms : List Mode) (k : ℕ) → Ok tt ≡ verdict (refusals fs ms (strike k)) → (1 ≤ k) × (k ≤ length ms)
+strike_taken fs ms k e = between 1 (length ms) k (not-false (within 1 (length ms) k) (verdict_law.accepted (refusals fs ms (strike k)) (sym e)).0)

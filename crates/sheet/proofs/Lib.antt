@@ -2,7 +2,6 @@ pub mod Sums
 pub mod FloorLists
 pub mod ModeLists
 pub mod Ordinates
-pub mod Shifts
 pub mod Sheets
 pub mod Judged
 pub mod Counted

@@ -1,24 +1,23 @@
 -- What calls make of a list of modes. Assumes nothing.
-use Rattle.std.proofs.Common.{◌≡◌, ℕ, zero, suc, ◌-◌, ◌<◌, ◌≤◌, Bool, true, false, ◌&&◌, ltb, leb, List, [], ◌∷◌, ◌++◌, length, get_or, take, drop, sym, refl, ap, ◌∙◌, not-suc-le-zero, arith}
+use Rattle.std.proofs.Common.{◌≡◌, ℕ, zero, suc, ◌-◌, ◌<◌, ◌≤◌, Bool, true, false, ◌&&◌, ltb, leb, List, [], ◌∷◌, ◌++◌, length, take, drop, IsSome, OnSome, Some, None, Option, ◌↔◌, sym, refl, ap, ◌∙◌, arith}
+use Rattle.std.proofs.lemmas.List.{length-map, map-append, take-map, drop-map}
 use Rattle.std.proofs.lemmas.Bool.{and_parts, and_from, lt-ltb, ltb-true, leb-false}
+use Rattle.std.specs.List.{slice_get, remove}
+use Rattle.std.specs.Option.{option_map_or}
 use Rattle.formulas.specs.Buildings.{Mode}
+use Rattle.methods.specs.declared.modes.ModeRow.{ModeRow}
 use Rattle.methods.specs.Loads.{every}
-use Rattle.methods.specs.Shapes.{falls_from}
+use Rattle.methods.specs.Shapes.{mode_of, modes_of, falls_from}
 use Rattle.methods.proofs.Lists.{every_append, every_drop}
-use Rattle.sheet.specs.Modes.{not_below_last, without}
+use Rattle.sheet.specs.Modes.{not_below_last}
 
--- the last mode by its place
-pub last_period : (p : ℕ) (ms : List Mode) (d : Mode) → 1 ≤ length ms → not_below_last p ms ≡ leb (get_or ms (length ms - 1) d).period p
-last_period p [] d l = absurd (not-suc-le-zero l)
-last_period p (m ∷ []) d l = refl
-last_period p (m ∷ (k ∷ ms)) d l =
-    let e : suc (length ms) - 0 ≡ suc (suc (length ms) - 1) = omega arith in
-    let e' : suc (suc (length ms)) - 1 ≡ suc (suc (length ms) - 1) = omega arith in
-    last_period p (k ∷ ms) d (omega arith) ∙ ap (λ (n : ℕ). leb (get_or (m ∷ (k ∷ ms)) n d).period p) (sym e')
-
-pub none_before : (p : ℕ) (ms : List Mode) → length ms ≡ 0 → not_below_last p ms ≡ false
-none_before p [] e = refl
-none_before p (m ∷ ms) e = absurd (omega (arith, e))
+-- the last mode is that of the last row
+pub last_row : (p n : ℕ) (rs : List ModeRow) → option_map_or (λ (r : ModeRow). leb r.period p) (slice_get rs (length rs - 1)) false ≡ not_below_last p (modes_of n rs)
+last_row p n [] = refl
+last_row p n (r ∷ []) = refl
+last_row p n (r ∷ (k ∷ rs)) =
+    let e : length (r ∷ (k ∷ rs)) - 1 ≡ suc (length (k ∷ rs) - 1) = omega arith in
+    ap (λ (i : ℕ). option_map_or (λ (r : ModeRow). leb r.period p) (slice_get (r ∷ (k ∷ rs)) i) false) e ∙ last_row p n (k ∷ rs)
 
 -- what is below the last period is below all
 below_all : (above p : ℕ) (m : Mode) (ms : List Mode) → falls_from above (m ∷ ms) ≡ true → not_below_last p (m ∷ ms) ≡ false → p < above
@@ -42,7 +41,7 @@ weaker a b (m ∷ ms) l down =
     let p = and_parts (ltb m.period a) (falls_from m.period ms) down in
     and_from (ltb m.period b) (falls_from m.period ms) (lt-ltb _ _ (omega (arith, ltb-true _ _ p.0))) p.1
 
-pub falls_without : (above : ℕ) (ms : List Mode) (k : ℕ) → falls_from above ms ≡ true → falls_from above (without ms k) ≡ true
+pub falls_without : (above : ℕ) (ms : List Mode) (k : ℕ) → falls_from above ms ≡ true → falls_from above (remove ms k) ≡ true
 falls_without above [] zero down = refl
 falls_without above [] (suc k) down = refl
 falls_without above (m ∷ ms) zero down =
@@ -50,12 +49,19 @@ falls_without above (m ∷ ms) zero down =
     weaker m.period above ms (omega (arith, ltb-true _ _ p.0)) p.1
 falls_without above (m ∷ ms) (suc k) down =
     let p = and_parts (ltb m.period above) (falls_from m.period ms) down in
-    and_from (ltb m.period above) (falls_from m.period (without ms k)) p.0 (falls_without m.period ms k p.1)
+    and_from (ltb m.period above) (falls_from m.period (remove ms k)) p.0 (falls_without m.period ms k p.1)
 
 every_take : {A : Type 0} (p : A → Bool) (xs : List A) (k : ℕ) → every p xs ≡ true → every p (take k xs) ≡ true
 every_take p xs zero e = refl
 every_take p [] (suc k) e = refl
 every_take p (x ∷ xs) (suc k) e = let h = and_parts (p x) (every p xs) e in and_from (p x) (every p (take k xs)) h.0 (every_take p xs k h.1)
 
-pub every_without : {A : Type 0} (p : A → Bool) (xs : List A) (k : ℕ) → every p xs ≡ true → every p (without xs k) ≡ true
+pub every_without : {A : Type 0} (p : A → Bool) (xs : List A) (k : ℕ) → every p xs ≡ true → every p (remove xs k) ≡ true
 every_without p xs k e = every_append p (take k xs) (drop (suc k) xs) (every_take p xs k e) (every_drop p xs (suc k) e)
+
+-- where the row is there, it goes, and its mode with it
+pub struck : (n k : ℕ) (rows rows' : List ModeRow) (r : Option ModeRow) → IsSome r ↔ (k < length rows) → OnSome r (rows' ≡ remove rows k) → k < length (modes_of n rows) → modes_of n rows' ≡ remove (modes_of n rows) k
+struck n k rows rows' None there gone l = let l' : k < length rows = omega (arith, l, length-map rows (mode_of n)) in absurd (cc (there.1 l'))
+struck n k rows rows' (Some x) there gone l =
+    ap (modes_of n) gone ∙ map-append (mode_of n) (take k rows) (drop (suc k) rows)
+    ∙ (λ i. sym (take-map (mode_of n) k rows) i ++ sym (drop-map (mode_of n) (suc k) rows) i)

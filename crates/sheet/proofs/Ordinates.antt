@@ -1,47 +1,42 @@
--- A walk over ordinates. Assumes nothing.
-use Rattle.std.proofs.Common.{◌≡◌, ℕ, ◌+◌, ◌<◌, ◌≤◌, min, Bool, true, false, not, ◌&&◌, List, [], ◌∷◌, length, get_or, take, drop, ℤ, pos, nat_abs, sym, refl, ap, ◌∙◌, inl, inr, arith, w16, SFits, to_z, of_z}
-use Rattle.std.proofs.lemmas.List.{at_drop_more, drop_all, get_or-take, length-take}
-use Rattle.std.proofs.lemmas.Int.{to_z-of_z}
-use Rattle.std.proofs.lemmas.Bool.{lt-ltb, le-ltb, eq-eqb, ne_eqb, cond-true, cond-false, and_left, and_from, cases_Bool}
+-- Ordinates as they were typed in. Assumes nothing.
+use Rattle.std.proofs.Common.{◌≡◌, ℕ, suc, ◌+◌, min, Bool, true, false, not, ◌&&◌, List, [], ◌∷◌, length, take, ℤ, is_some, Some, refl, sym, ap, ◌∙◌, inl, inr, arith}
+use Rattle.std.specs.List.{list_all, position, position_from}
+use Rattle.std.specs.Option.{option_map}
+use Rattle.std.proofs.lemmas.List.{length-take}
+use Rattle.std.proofs.lemmas.Bool.{and_from, cases_Bool, cond-true, cond-false}
+use Rattle.std.proofs.lemmas.Iterator.Adapters.{position_from-zero}
 use Rattle.methods.specs.Loads.{every}
-use Rattle.methods.specs.Shapes.{all_zero, outside}
-use Rattle.sheet.specs.Modes.{first_outside_from}
+use Rattle.methods.specs.Shapes.{outside}
+use Rattle.sheet.specs.Modes.{first_outside}
 
-module _ (ys : List ℤ) (i : ℕ) (l : i < length ys) where
-  pub first_found : (p : ℕ) → 4000 < nat_abs (get_or ys i (pos 0)) → first_outside_from p (drop i ys) ≡ p
-  first_found p h = at_drop_more (first_outside_from p) ys i (pos 0) l ∙ cond-true _ _ _ (lt-ltb _ _ h)
+pub typed_length : (os : List ℤ) (n : ℕ) → length os ≡ 40 → length (take n os) ≡ min n 40
+typed_length os n long = length-take n os ∙ ap (min n) long
 
-  pub first_passed : (p : ℕ) → nat_abs (get_or ys i (pos 0)) ≤ 4000 → first_outside_from p (drop i ys) ≡ first_outside_from (p + 1) (drop (i + 1) ys)
-  first_passed p h = at_drop_more (first_outside_from p) ys i (pos 0) l ∙ cond-false _ _ _ (le-ltb _ _ h)
+-- a number one higher is the same place counted from one further
+counted_up : (p : ℕ) (ys : List ℤ) → option_map suc (position_from outside p ys) ≡ position_from outside (p + 1) ys
+counted_up p [] = refl
+counted_up p (y ∷ ys) =
+    elim (cases_Bool (outside y)) [
+      | inl b ↦ rw (cond-true (outside y) (Some p) (position_from outside (p + 1) ys) b, cond-true (outside y) (Some (p + 1)) (position_from outside (p + 1 + 1) ys) b) (ap Some (omega arith))
+      | inr b ↦ rw (cond-false (outside y) (Some p) (position_from outside (p + 1) ys) b, cond-false (outside y) (Some (p + 1)) (position_from outside (p + 1 + 1) ys) b) (counted_up (p + 1) ys)
+    ]
 
-  pub zero_broken : (nat_abs (get_or ys i (pos 0)) ≡ 0 → ⊥) → all_zero (drop i ys) ≡ false
-  zero_broken h = at_drop_more all_zero ys i (pos 0) l ∙ and_left _ _ (ne_eqb _ _ h)
+-- the number of the first ordinate outside, by its place
+pub numbered : (ys : List ℤ) → option_map suc (position outside ys) ≡ first_outside ys
+numbered ys = ap (option_map suc) (position_from-zero outside ys) ∙ counted_up 0 ys
 
-  pub zero_passed : nat_abs (get_or ys i (pos 0)) ≡ 0 → all_zero (drop i ys) ≡ all_zero (drop (i + 1) ys)
-  zero_passed h = at_drop_more all_zero ys i (pos 0) l ∙ ap (λ (b : Bool). b && all_zero (drop (i + 1) ys)) (eq-eqb _ _ h)
-
-pub first_none : (ys : List ℤ) (i p : ℕ) → length ys ≤ i → first_outside_from p (drop i ys) ≡ 0
-first_none ys i p l = ap (first_outside_from p) (drop_all i ys l)
-
-pub zero_all : (ys : List ℤ) (i : ℕ) → length ys ≤ i → all_zero (drop i ys) ≡ true
-zero_all ys i l = ap all_zero (drop_all i ys l)
-
--- a place within the count, as the code reads it
-module _ (os : List ℤ) (n i : ℕ) (long : length os ≡ 40) where
-  pub typed_length : length (take n os) ≡ min n 40
-  typed_length = length-take n os ∙ ap (min n) long
-
-  pub typed_size : (r : ℕ) → i < min n 40 → SFits w16 (get_or os i (pos 0)) → r ≡ nat_abs (to_z w16 (of_z w16 (get_or os i (pos 0)))) → nat_abs (get_or (take n os) i (pos 0)) ≡ r
-  typed_size r l fits e = ap nat_abs (get_or-take n os i (pos 0) (omega arith) ∙ sym (to_z-of_z w16 (get_or os i (pos 0)) fits)) ∙ sym e
+inside_from : (p : ℕ) (ys : List ℤ) → is_some (position_from outside p ys) ≡ false → every (λ y. not (outside y)) ys ≡ true
+inside_from p [] h = refl
+inside_from p (y ∷ ys) h =
+    elim (cases_Bool (outside y)) [
+      | inl b ↦ (let z : true ≡ false = sym (ap is_some (cond-true (outside y) (Some p) (position_from outside (p + 1) ys) b)) ∙ h in absurd (cc))
+      | inr b ↦ and_from (not (outside y)) (every (λ y. not (outside y)) ys) (ap not b) (inside_from (p + 1) ys (sym (ap is_some (cond-false (outside y) (Some p) (position_from outside (p + 1) ys) b)) ∙ h))
+    ]
 
 -- where no ordinate is outside its range, each is inside
-pub all_inside : (p : ℕ) (ys : List ℤ) → 1 ≤ p → first_outside_from p ys ≡ 0 → every (λ y. not (outside y)) ys ≡ true
-all_inside p [] l e = refl
-all_inside p (y ∷ ys) l e =
-    elim (cases_Bool (outside y)) [
-      | inl b ↦ absurd (clash (sym (cond-true (outside y) p (first_outside_from (p + 1) ys) b) ∙ e))
-      | inr b ↦ and_from (not (outside y)) (every (λ y. not (outside y)) ys) (ap not b) (all_inside (p + 1) ys (omega arith) (sym (cond-false (outside y) p (first_outside_from (p + 1) ys) b) ∙ e))
-    ]
-  where
-    clash : p ≡ 0 → ⊥
-    clash z = omega arith
+pub all_inside : (ys : List ℤ) → is_some (first_outside ys) ≡ false → every (λ y. not (outside y)) ys ≡ true
+all_inside ys none = inside_from 1 ys none
+
+pub every_all : {A : Type 0} (p : A → Bool) (xs : List A) → every p xs ≡ list_all p xs
+every_all p [] = refl
+every_all p (x ∷ xs) = ap (λ (b : Bool). p x && b) (every_all p xs)

@@ -1,6 +1,7 @@
 -- Standing by a ledger is carried on by each call, and what follows of sums and distances. Assumes nothing.
 use Rattle.std.proofs.Common.{◌≡◌, ℕ, zero, suc, ◌-◌, ◌<◌, ◌≤◌, true, false, not, ◌&&◌, eqb, leb, List, [], ◌∷◌, length, get_or, ℤ, pos, ◌+ℤ◌, is_ok, is_err, Some, None, Ok, Err, Option, sym, refl, ap, ◌∙◌, subst, arith}
 use Rattle.std.specs.List.{AllByRecursion}
+use Rattle.std.proofs.lemmas.List.{length-map}
 use Rattle.std.proofs.lemmas.Bool.{cond-true, cond-false, and_from, and_parts, le-leb, eqb-false}
 use Rattle.std.proofs.lemmas.Bool.Decides.{nat_tests}
 use Rattle.standard.specs.declared.fraction.Fraction.{Fraction}
@@ -14,6 +15,7 @@ use Rattle.base_shear.specs.Periods.{BaseGoes}
 use Rattle.base_shear.proofs.Accelerations.{bounded as Bounded-at}
 use Rattle.combination.specs.declared.response.Response.{Response}
 use Rattle.combination.specs.Laws.{Laws}
+use Rattle.fixed_list.specs.Items.{items_of, items_fit}
 use Rattle.formulas.specs.declared.floor.Floor.{Floor}
 use Rattle.formulas.specs.Buildings.{Mode}
 use Rattle.formulas.specs.Exact.{CombinedNear, DesignNear}
@@ -29,7 +31,7 @@ use Rattle.methods.specs.Loads.{every, in_range, nothing, roof_of}
 use Rattle.methods.specs.Outcomes.{code_shear, static_shears_of}
 use Rattle.methods.specs.ModalRuns.{modal_combined, modal_design, modal_refusals}
 use Rattle.methods.specs.Refusals.{static_refusals}
-use Rattle.methods.specs.Shapes.{usable}
+use Rattle.methods.specs.Shapes.{mode_of, usable}
 use Rattle.methods.proofs.BaseShears.{acceleration_within}
 use Rattle.methods.proofs.Lists.{every_at}
 use Rattle.methods.proofs.LoadFacts.{ranged}
@@ -46,7 +48,6 @@ use Rattle.sheet.specs.Histories.{asked}
 use Rattle.sheet.specs.Ledgers.{Asked, floor, reweigh, mode, strike, static, modal, Ledger, refusals, floors_after, modes_after, verdict_on, step_by, step}
 use Rattle.sheet.specs.Readings.{shown, read_after, expected_by}
 use Rattle.sheet.proofs.Counted.{counted_length, counted_roof, counted_built, counted_moves}
-use Rattle.sheet.proofs.Sheets.{modes_length}
 
 -- ---- standing is carried on
 
@@ -137,10 +138,10 @@ module _ (s : Sheet) (fs : List Floor) (ms : List Mode) (held : floors_in s ≡ 
 
   modal_usable : Usable (acceleration_of t sa) (counted fs) ms
   modal_usable =
-      let n = ap length (sym modes) ∙ modes_length s.table.count s.modes s.modes_held in
+      let n = ap length (sym modes) ∙ length-map (items_of s.modes) (mode_of s.table.count) in
       let all = subst (λ (l : List Floor). every in_range l ≡ true) held s.ranged in
       let can = subst (λ (l : List Mode). every (usable s.table.count) l ≡ true) modes s.moving in (
-        omega (arith, n, s.modes_few),
+        omega (arith, n, items_fit s.modes),
         usable_all s.table.count (acceleration_of t sa) fs ms (λ p low high. Bounded-at t sa p law low high) all (sym s.held ∙ ap length held) can,
       )
 

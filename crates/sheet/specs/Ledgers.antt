@@ -1,5 +1,6 @@
 -- The ledger: what follows from the calls alone.
-use Rattle.std.specs.Prelude.{ℕ, ◌+◌, ◌-◌, Bool, not, ◌&&◌, ◌||◌, List, [], ◌∷◌, ◌++◌, length, ℤ, Some, None, Ok, Err, Option, ◌==◌, nat_le, nat_lt}
+use Rattle.std.specs.Prelude.{ℕ, ◌+◌, ◌-◌, Bool, not, ◌&&◌, ◌||◌, List, [], ◌∷◌, ◌++◌, length, ℤ, Some, None, Ok, Err, Option, is_some, unwrap_or, ◌==◌, nat_le, nat_lt}
+use Rattle.std.specs.List.{remove}
 use Rattle.standard.specs.declared.fault.Ground.TheVariants.{FloorHeight, FloorWeight, TotalWeight, TooManyFloors, NoSuchFloor, ModesEntered, OrdinateCount, ModePeriod, OrdinateRange, OrdinatesAllZero, TooManyModes, NoSuchMode}
 use Rattle.standard.specs.declared.fraction.Fraction.{Fraction}
 use Rattle.standard.specs.declared.terms.SiteTerms.{SiteTerms}
@@ -13,7 +14,7 @@ use Rattle.methods.specs.ModalRuns.{modal_refusals}
 use Rattle.methods.specs.Refusals.{static_refusals}
 use Rattle.sheet.specs.Floors.{weight_at, grown, reweighed, counted}
 use Rattle.methods.specs.Shapes.{most_modes, all_zero}
-use Rattle.sheet.specs.Modes.{first_outside_from, not_below_last, without}
+use Rattle.sheet.specs.Modes.{first_outside, not_below_last}
 
 -- a call with what it was made with: a run with the terms of its site and the meanings of its spectrum and rule
 pub data Asked : Type 0 where
@@ -43,12 +44,12 @@ reweigh_grounds n sum old i w =
     ∷ (refusal NoSuchFloor i (not (within 1 n i)) ∷ []))
 
 -- a mode of period p that was typed in with a count c, beside n floors and m modes, where it is not below the last,
--- its first ordinate outside the range is at `out`, and all are 0
-abbrev pub mode_grounds : ℕ → ℕ → ℕ → ℕ → Bool → ℕ → Bool → List Refusal
+-- its first ordinate outside the range, where there is one, is number `out`, and all are 0
+abbrev pub mode_grounds : ℕ → ℕ → ℕ → ℕ → Bool → Option ℕ → Bool → List Refusal
 mode_grounds n m p c notBelow out zeros =
     refusal OrdinateCount c (n == 0 || not (c == n))
     ∷ (refusal ModePeriod (m + 1) (not (within 1 4000 p) || notBelow)
-    ∷ (refusal OrdinateRange out (nat_lt 0 out)
+    ∷ (refusal OrdinateRange (unwrap_or out 0) (is_some out)
     ∷ (refusal OrdinatesAllZero (m + 1) zeros
     ∷ (refusal TooManyModes (most_modes + 1) (nat_le most_modes m) ∷ []))))
 
@@ -59,7 +60,7 @@ strike_grounds m k = refusal NoSuchMode k (not (within 1 m k)) ∷ []
 abbrev pub refusals : List Floor → List Mode → Asked → List Refusal
 refusals fs ms (floor h w) = floor_grounds (length fs) (roof_of fs) (W fs) (length ms) h w
 refusals fs ms (reweigh i w) = reweigh_grounds (length fs) (W fs) (weight_at fs (i - 1)) i w
-refusals fs ms (mode p c ys) = mode_grounds (length fs) (length ms) p c (not_below_last p ms) (first_outside_from 1 ys) (all_zero ys)
+refusals fs ms (mode p c ys) = mode_grounds (length fs) (length ms) p c (not_below_last p ms) (first_outside ys) (all_zero ys)
 refusals fs ms (strike k) = strike_grounds (length ms) k
 refusals fs ms (static s sa) = static_refusals s (counted fs)
 refusals fs ms (modal s sa q) = modal_refusals s sa q (counted fs) ms
@@ -81,7 +82,7 @@ abbrev pub modes_after : List Mode → Asked → List Mode
 modes_after ms (floor h w) = ms
 modes_after ms (reweigh i w) = ms
 modes_after ms (mode p n ys) = entered ms p ys
-modes_after ms (strike k) = without ms (k - 1)
+modes_after ms (strike k) = remove ms (k - 1)
 modes_after ms (static s sa) = ms
 modes_after ms (modal s sa q) = ms
 

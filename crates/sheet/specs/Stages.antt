@@ -1,5 +1,6 @@
 -- The stage of a sheet.
-use Rattle.std.specs.Prelude.{◌≡◌, ℕ, Bool, true, false, List, ℤ}
+use Rattle.std.specs.Prelude.{◌≡◌, ℕ, Bool, true, false, List}
+use Rattle.methods.specs.declared.outcome.Storey.{Storey}
 use Rattle.methods.specs.Outcomes.{Differences}
 use Rattle.sheet.specs.declared.stage.Stage.{Stage}
 use Rattle.sheet.specs.declared.stage.Stage.TheVariants.{Draft, Static, Modal}
@@ -19,5 +20,5 @@ stage_after RunStatic = Static
 stage_after RunModal = Modal
 
 -- where forces stand, each is the difference of two design shears
-abbrev pub Forced : Stage → ℕ → List ℕ → List ℤ → Type 0
-Forced g n design forces = is_run g ≡ true → Differences n design forces
+abbrev pub Forced : Stage → ℕ → List Storey → Type 0
+Forced g n storeys = is_run g ≡ true → Differences n storeys

@@ -6,7 +6,6 @@ ghost use Rattle.sheet.specs.Samples.{Samples};
 
 mod call;
 mod history;
-mod judge;
 mod modes;
 mod sheet;
 mod stage;

@@ -1,8 +1,8 @@
 // The sheet of a building. What it always keeps is in its type.
-ghost use Rattle.std.specs.Prelude.{◌≡◌, ◌≤◌, true, length, take};
+ghost use Rattle.std.specs.Prelude.{◌≡◌, ◌≤◌, true, length};
 ghost use Rattle.formulas.specs.Buildings.{W, heaviest};
 ghost use Rattle.methods.specs.Loads.{every, in_range, most_floors};
-ghost use Rattle.methods.specs.Shapes.{most_modes, falls_from, usable};
+ghost use Rattle.methods.specs.Shapes.{falls_from, usable};
 ghost use Rattle.sheet.specs.Floors.{floors_of, rises_from};
 ghost use Rattle.sheet.specs.Modes.{modes_held_in};
 ghost use Rattle.sheet.specs.Stages.{Forced};
@@ -11,29 +11,28 @@ use crate::modes::ModeTable;
 use crate::stage::Stage;
 use crate::table::FloorTable;
 use methods::loads::FLOORS;
+use methods::outcome::Storey;
 
 mod edits;
+mod judge;
 mod reading;
 mod runs;
 
+// The floors from the lowest up, the modes, what the floors weigh together, and what the last run gave of each storey.
 #[derive(Clone, Copy)]
 pub struct Sheet {
     table: FloorTable,
     modes: ModeTable,
     total: u32,
     stage: Stage,
-    combined: [u64; FLOORS],
-    design: [u64; FLOORS],
-    forces: [i64; FLOORS],
+    storeys: [Storey; FLOORS],
     ghost few: { table.count ≤ most_floors },
     ghost held: { length (floors_of table) ≡ table.count },
     ghost rising: { rises_from 0 (floors_of table) ≡ true },
     ghost ranged: { every in_range (floors_of table) ≡ true },
     ghost summed: { total ≡ W (floors_of table) },
     ghost light: { total ≤ heaviest },
-    ghost modes_few: { modes.count ≤ most_modes },
-    ghost modes_held: { length (take modes.count modes.rows) ≡ modes.count },
     ghost falling: { falls_from 4001 (modes_held_in table.count modes) ≡ true },
     ghost moving: { every (usable table.count) (modes_held_in table.count modes) ≡ true },
-    ghost forced: { Forced stage table.count design forces },
+    ghost forced: { Forced stage table.count storeys },
 }

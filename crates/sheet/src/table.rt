@@ -1,5 +1,5 @@
 // The floors of a building, in fixed memory.
-ghost use Rattle.std.specs.Prelude.{◌≡◌, ◌+◌, ◌<◌, ◌≤◌};
+ghost use Rattle.std.specs.Prelude.{◌≡◌, ◌+◌, ◌<◌, ◌≤◌, length, MatchOption};
 ghost use Rattle.methods.specs.Loads.{most_floors, roof_of};
 ghost use Rattle.sheet.specs.Floors.{floors_of, weight_at, grown, reweighed};
 
@@ -18,32 +18,24 @@ impl FloorTable {
         requires { self.now.count ≤ most_floors }
         ensures { result ≡ roof_of (floors_of self.now) }
     {
-        if self.count == 0 {
-            0
-        } else {
-            self.floors[self.count - 1].height
-        }
+        self.floors[..self.count].last().map_or(0, |f| f.height)
     }
 
-    // What the floor at place `k` weighs, 0 where there is none.
-    pub(crate) fn weight(&self, k: usize) -> u32
+    // What the floor at place `k` weighs, where there is one.
+    pub(crate) fn weight(&self, k: usize) -> Option<u32>
         requires { self.now.count ≤ most_floors }
-        ensures { result ≡ weight_at (floors_of self.now) k }
+        ensures { MatchOption result (length (floors_of self.now) ≤ k) (λ w. (k < length (floors_of self.now)) × (w ≡ weight_at (floors_of self.now) k)) }
     {
-        if k < self.count {
-            self.floors[k].weight
-        } else {
-            0
-        }
+        self.floors[..self.count].get(k).map(|f| f.weight)
     }
 
     // One floor more, on top.
-    pub(crate) fn push(&mut self, height: u16, weight: u32)
+    pub(crate) fn push(&mut self, floor: Floor)
         requires { self.old.count < most_floors }
-        ensures floors { floors_of self.new ≡ grown (floors_of self.old) height weight }
+        ensures floors { floors_of self.new ≡ grown (floors_of self.old) floor.height floor.weight }
         ensures count { self.new.count ≡ self.old.count + 1 }
     {
-        self.floors[self.count] = Floor { height, weight };
+        self.floors[self.count] = floor;
         self.count += 1;
     }
 

@@ -9,17 +9,11 @@ impl Sheet {
     pub fn reading(&self, storey: u8) -> Option<(u64, u64, i64)>
         ensures { result ≡ reading_of self.now storey }
     {
-        let i = storey as usize;
-        if i < 1 || i > self.table.count {
+        if matches!(self.stage, Stage::Draft) {
             return None;
         }
-        match self.stage {
-            Stage::Draft => None,
-            Stage::Static | Stage::Modal => Some((
-                self.combined[i - 1],
-                self.design[i - 1],
-                self.forces[i - 1],
-            )),
-        }
+        let place = (storey as usize).checked_sub(1)?;
+        let read = self.storeys[..self.table.count].get(place)?;
+        Some((read.combined, read.design, read.force))
     }
 }

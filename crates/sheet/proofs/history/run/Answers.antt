@@ -1,7 +1,6 @@
 use Rattle.std.proofs.Common.{List, get_or, take, sym, subst}
 use Rattle.std.proofs.lemmas.List.{take_all}
 use Rattle.std.proofs.lemmas.List.Sums.{fold_more}
-use Rattle.combination.specs.Laws.{Laws}
 use Rattle.sheet.specs.declared.call.Call.{Call}
 use Rattle.sheet.specs.declared.call.Call.TheVariants.{Floor}
 use Rattle.sheet.specs.Answers.{Stands}
@@ -13,8 +12,8 @@ use Rattle.sheet.proofs.history.run.Goals as goal
 
 pub loop-call-preserved : goal.loop-call-preserved
 loop-call-preserved g c =
-    let t = c.args.site.now.terms in
-    let sa = g.C.Spectrum.ordinate c.args.spectrum.now in
+    let t = c.args.shaking.now.site.now.terms in
+    let sa = g.C.Spectrum.ordinate c.args.shaking.now.spectrum.now in
     let q = g.R.Rule.squared c.args.rule.now in
     let calls = c.args.calls.now in
     let i = c.loop-call.call-index in
@@ -22,15 +21,13 @@ loop-call-preserved g c =
     let a = asked t sa q (get_or calls i (Floor 0 0)) in
     let e = fold_more (λ (l : Ledger) (call : Call). step l (asked t sa q call)) opened calls i (Floor 0 0) c.loop-call-test.true in
     let st = (carried c.loop-call.sheet c.perform.new.sheet ℓ a c.perform.result c.loop-call.invariant.0 c.perform.ensures.answers).1 in
-    let x = c.args.rule.now in
-    let laws : Laws (g.R.Rule.squared c.args.rule.now) = record { lone = g.met.R.Rule.lone x; scale = g.met.R.Rule.scale x; triangle = g.met.R.Rule.triangle x; rise = g.met.R.Rule.rise x } in
-    let f = fair_step ℓ a (fair_asked t sa q (g.met.C.Spectrum.lawful c.args.spectrum.now) c.args.site.now.accepted laws (get_or calls i (Floor 0 0))) c.loop-call.invariant.1 in
+    let f = fair_step ℓ a (fair_asked t sa q (g.met.C.Spectrum.lawful c.args.shaking.now.spectrum.now) c.args.shaking.now.site.now.accepted (g.met.R.Rule.laws c.args.rule.now) (get_or calls i (Floor 0 0))) c.loop-call.invariant.1 in
     (subst (Stands c.perform.new.sheet) (sym e) st, subst FairLedger (sym e) f)
 
 pub returns : goal.returns
 returns g c =
-    let t = c.args.site.now.terms in
-    let sa = g.C.Spectrum.ordinate c.args.spectrum.now in
+    let t = c.args.shaking.now.site.now.terms in
+    let sa = g.C.Spectrum.ordinate c.args.shaking.now.spectrum.now in
     let q = g.R.Rule.squared c.args.rule.now in
     let h = faultless c.loop-call.sheet (ledger_of t sa q (take c.loop-call.call-index c.args.calls.now)) c.loop-call.invariant.0 c.loop-call.invariant.1 in
-    subst (λ (cs : List Call). Faultless c.loop-call.sheet (ledger_of c.args.site.now.terms (g.C.Spectrum.ordinate c.args.spectrum.now) (g.R.Rule.squared c.args.rule.now) cs)) (take_all c.loop-call.call-index c.args.calls.now c.loop-call-test.false) h
+    subst (λ (cs : List Call). Faultless c.loop-call.sheet (ledger_of c.args.shaking.now.site.now.terms (g.C.Spectrum.ordinate c.args.shaking.now.spectrum.now) (g.R.Rule.squared c.args.rule.now) cs)) (take_all c.loop-call.call-index c.args.calls.now c.loop-call-test.false) h
