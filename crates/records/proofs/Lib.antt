@@ -1,2 +1,4 @@
+pub mod Fields
 pub mod FirstOrdinates
-pub mod Readings
+pub mod FromCalls
+pub mod Unused

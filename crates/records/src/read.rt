@@ -1,5 +1,5 @@
 // From the bytes of a record to what it says.
-ghost use Rattle.std.specs.Prelude.{◌≡◌, ◌+◌, ◌≤◌, true, length, drop, IfSome, Ok, slice_index};
+ghost use Rattle.std.specs.Prelude.{◌≡◌, ◌+◌, ◌≤◌, ◌==◌, not, sum, position, length, drop, IfSome, slice_index};
 ghost use Rattle.standard.specs.Faults.{verdict};
 ghost use Rattle.records.specs.Bytes.{number_at};
 ghost use Rattle.records.specs.Rows.{record_of, record_refusals, unused_refusals, layout_of, site_at, mode_at, mode_end, told, heard, answer, laid};
@@ -7,6 +7,7 @@ ghost use Rattle.records.specs.Rows.{record_of, record_refusals, unused_refusals
 use crate::record::Record;
 use standard::fault::{Fault, Ground};
 use standard::values::SiteValues;
+use std::array;
 
 // The length of a record.
 pub const RECORD_LENGTH: usize = 96;
@@ -14,61 +15,46 @@ pub const RECORD_LENGTH: usize = 96;
 // The most ordinates that a record holds.
 const MOST_ORDINATES: usize = 46;
 
-// The number that two bytes write.
-fn number16(bytes: &[u8], place: usize) -> u16
-    requires { place + 2 ≤ length bytes.now }
-    ensures { result ≡ number_at bytes.now place 2 }
+// The bytes of a field, which write a number with the high byte first.
+fn field<const N: usize>(bytes: &[u8; RECORD_LENGTH], place: usize) -> [u8; N]
+    requires { place + N ≤ RECORD_LENGTH }
+    ensures { number_at result 0 N ≡ number_at bytes.now place N }
 {
-    u16::from_be_bytes([bytes[place], bytes[place + 1]])
+    array::from_fn(|k| bytes[place + k])
 }
 
-// The number that four bytes write.
-fn number32(bytes: &[u8], place: usize) -> u32
-    requires { place + 4 ≤ length bytes.now }
-    ensures { result ≡ number_at bytes.now place 4 }
+// Whether every byte is 0. It adds them all up whatever they are, so that many bytes are looked at in one step.
+fn is_clear(bytes: &[u8]) -> bool
+    requires { length bytes.now ≤ RECORD_LENGTH }
+    ensures { result ≡ (sum bytes.now == 0) }
 {
-    u32::from_be_bytes([
-        bytes[place],
-        bytes[place + 1],
-        bytes[place + 2],
-        bytes[place + 3],
-    ])
+    bytes.iter().map(|byte| *byte as u32).sum::<u32>() == 0
 }
 
-// Whether every byte from `used` on is 0. It goes on to the end whatever it meets, so that many bytes are looked at in one step.
-fn is_clear(bytes: &[u8], used: usize) -> bool
-    requires { (used ≤ 96) × (length bytes.now ≡ 96) }
-    ensures { result ≡ true → verdict (unused_refusals used (drop used bytes.now)) ≡ Ok tt }
+// How many bytes are 0 before the first that is not, where there is one.
+fn first_filled(bytes: &[u8]) -> Option<usize>
+    ensures { result ≡ position (λ b. not (b == 0)) bytes.now }
 {
-    let mut sum: u32 = 0;
-    for place in used..RECORD_LENGTH {
-        sum += bytes[place] as u32;
-    }
-    sum == 0
+    bytes.iter().position(|byte| *byte != 0)
 }
 
 // Refuses the first byte from `used` on that is not 0.
-fn clear_from(bytes: &[u8], used: usize) -> Result<(), Fault>
-    requires { (used ≤ 96) × (length bytes.now ≡ 96) }
+fn clear_from(bytes: &[u8; RECORD_LENGTH], used: usize) -> Result<(), Fault>
+    requires { used ≤ RECORD_LENGTH }
     ensures { result ≡ verdict (unused_refusals used (drop used bytes.now)) }
 {
-    if is_clear(bytes, used) {
+    let unused = &bytes[used..];
+    if is_clear(unused) {
         return Ok(());
     }
-    for place in used..RECORD_LENGTH {
-        if bytes[place] != 0 {
-            return Err(Fault {
-                ground: Ground::UnusedByte,
-                place: place as u32,
-            });
-        }
+    match first_filled(unused) {
+        Some(clear) => Err(Ground::UnusedByte.at((used + clear) as u32)),
+        None => Ok(()),
     }
-    Ok(())
 }
 
 // The seven values of a site.
-fn site_values(bytes: &[u8]) -> SiteValues
-    requires { length bytes.now ≡ 96 }
+fn site_values(bytes: &[u8; RECORD_LENGTH]) -> SiteValues
     ensures { result ≡ site_at bytes.now }
 {
     SiteValues {
@@ -78,13 +64,12 @@ fn site_values(bytes: &[u8]) -> SiteValues
         system: bytes[4],
         formula: bytes[5],
         plan: bytes[6],
-        base: number16(bytes, 7),
+        base: u16::from_be_bytes(field(bytes, 7)),
     }
 }
 
 // A mode, and where the unused bytes begin: past its ordinates.
-fn mode(bytes: &[u8]) -> (Record<'_>, usize)
-    requires { length bytes.now ≡ 96 }
+fn mode(bytes: &[u8; RECORD_LENGTH]) -> (Record<'_>, usize)
     ensures row { told result.0 ≡ mode_at bytes.now }
     ensures used { result.1 ≡ mode_end bytes.now }
 {
@@ -92,7 +77,7 @@ fn mode(bytes: &[u8]) -> (Record<'_>, usize)
     let used = 4 + 2 * (count as usize).min(MOST_ORDINATES);
     (
         Record::Mode {
-            period: number16(bytes, 1),
+            period: u16::from_be_bytes(field(bytes, 1)),
             count,
             ordinates: &bytes[4..used],
         },
@@ -101,10 +86,9 @@ fn mode(bytes: &[u8]) -> (Record<'_>, usize)
 }
 
 // What the letter says that 96 bytes hold, and where the unused ones begin.
-fn layout(bytes: &[u8]) -> Option<(Record<'_>, usize)>
-    requires { length bytes.now ≡ 96 }
+fn layout(bytes: &[u8; RECORD_LENGTH]) -> Option<(Record<'_>, usize)>
     ensures value { laid result ≡ layout_of (slice_index bytes.now 0) bytes.now }
-    ensures bound { IfSome result (λ l. l.1 ≤ 96) }
+    ensures bound { IfSome result (λ l. l.1 ≤ RECORD_LENGTH) }
 {
     match bytes[0] as char {
         'S' => Some((
@@ -115,15 +99,15 @@ fn layout(bytes: &[u8]) -> Option<(Record<'_>, usize)>
         )),
         'F' => Some((
             Record::Floor {
-                height: number16(bytes, 1),
-                weight: number32(bytes, 3),
+                height: u16::from_be_bytes(field(bytes, 1)),
+                weight: u32::from_be_bytes(field(bytes, 3)),
             },
             7,
         )),
         'W' => Some((
             Record::Reweigh {
                 floor: bytes[1],
-                weight: number32(bytes, 2),
+                weight: u32::from_be_bytes(field(bytes, 2)),
             },
             6,
         )),
@@ -140,19 +124,10 @@ pub fn read_record(bytes: &[u8]) -> Result<Record<'_>, Fault>
     ensures row { heard result ≡ record_of bytes.now }
     ensures verdict { answer (heard result) ≡ verdict (record_refusals bytes.now) }
 {
-    if bytes.len() < RECORD_LENGTH {
-        return Err(Fault {
-            ground: Ground::ShortRecord,
-            place: bytes.len() as u32,
-        });
-    }
-    let bytes = &bytes[0..RECORD_LENGTH];
-    let Some((record, used)) = layout(bytes) else {
-        return Err(Fault {
-            ground: Ground::UnknownLetter,
-            place: 0,
-        });
+    let Some(whole) = bytes.first_chunk() else {
+        return Err(Ground::ShortRecord.at(bytes.len() as u32));
     };
-    clear_from(bytes, used)?;
+    let (record, used) = layout(whole).ok_or(Ground::UnknownLetter.at(0))?;
+    clear_from(whole, used)?;
     Ok(record)
 }

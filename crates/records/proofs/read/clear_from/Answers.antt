@@ -1,21 +1,23 @@
-use Rattle.std.proofs.Common.{not, sym, ap, ◌∙◌, arith}
-use Rattle.std.proofs.lemmas.List.{at_drop_more, at_drop_all}
-use Rattle.std.proofs.lemmas.Bool.{eq-eqb, ne_eqb, cond-true, cond-false}
-use Rattle.standard.specs.Faults.{verdict}
-use Rattle.records.specs.Rows.{unused_refusals}
+use Rattle.std.proofs.Common.{◌≡◌, drop, sum, Err, sym, ap, ◌∙◌, arith}
+use Rattle.std.proofs.lemmas.Bool.{eqb-true}
+use Rattle.std.proofs.lemmas.Slice.{between_to_end}
+use Rattle.records.proofs.Unused.{found, first_filled, all_clear}
 use Rattle.records.proofs.read.clear_from.Goals as goal
 
-pub loop-place-preserved : goal.loop-place-preserved
-loop-place-preserved c =
-    c.loop-place.invariant
-    ∙ at_drop_more (λ bs. verdict (unused_refusals c.loop-place.place bs)) c.args.bytes.now c.loop-place.place 0 (omega arith)
-    ∙ cond-false _ _ _ (ap not (eq-eqb _ 0 c.if-bytes-place-ne0.false))
+pub returns-then-is_clear : goal.returns-then-is_clear
+returns-then-is_clear c =
+    let rest = between_to_end c.args.bytes.now c.args.used 96 (omega arith) in
+    let none : sum (drop c.args.used c.args.bytes.now) ≡ 0 = ap sum (sym rest) ∙ eqb-true _ 0 (sym c.if-is_clear.ensures) in
+    sym (all_clear c.args.used (drop c.args.used c.args.bytes.now) none)
 
-pub returns-then-bytes-place-ne0 : goal.returns-then-bytes-place-ne0
-returns-then-bytes-place-ne0 c =
-    sym (c.loop-place.invariant
-    ∙ at_drop_more (λ bs. verdict (unused_refusals c.loop-place.place bs)) c.args.bytes.now c.loop-place.place 0 (omega arith)
-    ∙ cond-true _ _ _ (ap not (ne_eqb _ 0 c.if-bytes-place-ne0.true)))
+pub returns-in-Some : goal.returns-in-Some
+returns-in-Some c =
+    let rest = between_to_end c.args.bytes.now c.args.used 96 (omega arith) in
+    let here = simp rest at c.in-Some.ensures in
+    ap Err c.at.ensures ∙ ap (found c.args.used) here ∙ sym (first_filled c.args.used (drop c.args.used c.args.bytes.now))
 
-pub returns : goal.returns
-returns c = sym (c.loop-place.invariant ∙ at_drop_all (λ bs. verdict (unused_refusals c.loop-place.place bs)) c.args.bytes.now c.loop-place.place (omega arith))
+pub returns-in-None : goal.returns-in-None
+returns-in-None c =
+    let rest = between_to_end c.args.bytes.now c.args.used 96 (omega arith) in
+    let here = simp rest at c.in-None.ensures in
+    ap (found c.args.used) here ∙ sym (first_filled c.args.used (drop c.args.used c.args.bytes.now))
