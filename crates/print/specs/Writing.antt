@@ -1,14 +1,8 @@
 -- What writing into a buffer leaves.
-use Rattle.std.specs.Prelude.{◌≡◌, ℕ, ◌+◌, ◌<◌, ◌≤◌, List, length, take, drop}
-use Rattle.std.proofs.Math.Seq.{paste}
+use Rattle.std.specs.Prelude.{◌≡◌, ℕ, ◌<◌, ◌≤◌, List, length, take, drop}
 use Rattle.standard.specs.declared.fault.Fault.{Fault}
 use Rattle.standard.specs.declared.fault.Ground.TheVariants.{PrintBuffer}
 use Rattle.standard.specs.Faults.{fault}
-
--- s was written into o from place a on, which made it p, and ends at b
-pub record Wrote (o : List ℕ) (a : ℕ) (s p : List ℕ) (b : ℕ) : Type 0 where
-  pub after : p ≡ paste o a s (length s)
-  pub end : b ≡ a + length s
 
 -- a buffer that held before holds the n bytes of a text at its start, and past them what it held
 abbrev pub Printed : List ℕ → List ℕ → List ℕ → ℕ → Type 0

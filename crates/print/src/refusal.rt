@@ -2,7 +2,8 @@ ghost use Rattle.standard.specs.Faults.{number_of};
 ghost use Rattle.print.specs.Texts.{refusal_text};
 ghost use Rattle.print.specs.Writing.{Printed};
 
-use crate::figures::{put, put_number};
+use crate::text::{push_number, write_out};
+use arrayvec::ArrayString;
 use standard::fault::Fault;
 
 // As many bytes as the line of a refusal never needs.
@@ -12,11 +13,13 @@ pub const LINE: usize = 64;
 pub fn print_refusal(position: u64, fault: &Fault, line: &mut [u8; LINE]) -> usize
     ensures { Printed (refusal_text position (number_of fault.now.ground) fault.now.place) line.old line.new result }
 {
-    let at = put(line, 0, b"refused ");
-    let at = put_number(line, at, position);
-    let at = put(line, at, b" ");
-    let at = put_number(line, at, fault.ground.number() as u64);
-    let at = put(line, at, b" ");
-    let at = put_number(line, at, fault.place as u64);
-    put(line, at, b"\n")
+    let mut text = ArrayString::<LINE>::new();
+    text.push_str("refused ");
+    push_number(&mut text, position);
+    text.push_str(" ");
+    push_number(&mut text, fault.ground.number());
+    text.push_str(" ");
+    push_number(&mut text, fault.place);
+    text.push_str("\n");
+    write_out(text.as_str(), line)
 }

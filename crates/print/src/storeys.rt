@@ -1,10 +1,15 @@
-ghost use Rattle.std.specs.Prelude.{◌≤◌};
+ghost use Rattle.std.specs.Prelude.{◌≤◌, length};
 
-// The design shear and the force of each storey, lowest first; a count of 0 means that no forces stand.
+// What is printed of a storey: its design shear and its force.
+#[derive(Clone, Copy, Default)]
+pub struct Figures {
+    pub design: u64,
+    pub force: i64,
+}
+
+// The figures of the storeys, lowest first; of no storey, that no forces stand.
 #[derive(Clone, Copy)]
-pub struct Storeys {
-    pub count: usize,
-    pub design: [u64; 40],
-    pub forces: [i64; 40],
-    ghost few: { count ≤ 40 },
+pub struct Storeys<'a> {
+    pub figures: &'a [Figures],
+    ghost few: { length figures.now ≤ 40 },
 }
