@@ -1,5 +1,5 @@
 pub mod Cuts
 pub mod TermsBack
-pub mod Takes
+pub mod Absent
 pub mod FairDeeds
 pub mod Standing

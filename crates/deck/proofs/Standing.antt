@@ -1,5 +1,5 @@
 -- Standing by a book is carried on by each record. Assumes nothing.
-use Rattle.std.proofs.Common.{◌≡◌, ℕ, List, [], is_ok, is_err, Some, None, Ok, Err, Option, Result, sym, refl, ap, ◌∙◌, subst, arith}
+use Rattle.std.proofs.Common.{◌≡◌, ℕ, List, [], is_ok, is_err, Some, None, Ok, Err, Option, Result, sym, refl, ap, ◌∙◌, subst}
 use Rattle.std.specs.Option.{option_map}
 use Rattle.std.proofs.lemmas.List.Sums.{fold_push}
 use Rattle.standard.specs.declared.fault.Fault.{Fault}
@@ -14,15 +14,12 @@ use Rattle.sheet.specs.Ledgers.{Asked, Ledger, step}
 use Rattle.sheet.proofs.Standing.{carried, fair_step, faultless}
 use Rattle.deck.specs.declared.desk.Desk.{Desk}
 use Rattle.deck.specs.Books.{Deed, accept, ask, deed, judged, Book, verdict_in, entered, turned, enter, book_of, blank}
-use Rattle.deck.specs.Desks.{site_in, CallLeft, Left, Does, Takes, DeskStands, CarriesOn}
+use Rattle.deck.specs.Desks.{site_in, CallLeft, Left, Takes, DeskStands, CarriesOn}
 use Rattle.deck.proofs.FairDeeds.{FairAt, fair_deed}
 
 -- the site that a desk holds was accepted
 same_terms : (o : Option Site) (t : SiteTerms) → option_map (λ s. s.terms) o ≡ Some t → BaseGoes t.formula
-same_terms None t e = let z : ◌≡◌ {A = ℕ} 0 1 = cc in absurd (apart z)
-  where
-    apart : ◌≡◌ {A = ℕ} 0 1 → ⊥
-    apart z = omega arith
+same_terms None t e = absurd (cc)
 same_terms (Some s) t e = let p : s.terms ≡ t = cc in subst (λ (x : SiteTerms). BaseGoes x.formula) p s.accepted
 
 -- ---- an accepted record
@@ -55,11 +52,3 @@ carries_on d d' bytes r h past st =
     let b = book_of past in
     let e : r ≡ verdict_in (book_of past) bytes = h.answer ∙ (λ j. judged (st.site j) (st.sheet.stands.floors j) (st.sheet.stands.modes j) (record_of bytes)) in
     (e, subst (DeskStands d') (sym (fold_push enter blank past bytes)) (turned_to d d' b (record_of bytes) r (verdict_in b bytes) st h e))
-
--- ---- from a reading to a record
-
-pub read_takes : (d d' : Desk) (reading : Result Row Fault) (row : Row) (r : Verdict) → Ok row ≡ reading → Does d (deed row) r d' → Takes d reading r d'
-read_takes d d' reading row r e h = subst (λ (v : Result Row Fault). Takes d v r d') e (record { answer = h.answer; kept = h.kept; left = h.left })
-
-pub unread_takes : (d : Desk) (reading : Result Row Fault) (f : Fault) (r : Verdict) → Err f ≡ reading → r ≡ Err f → Takes d reading r d
-unread_takes d reading f r e h = subst (λ (v : Result Row Fault). Takes d v r d) e (record { answer = h; kept = λ _. refl; left = λ _. refl })

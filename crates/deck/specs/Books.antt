@@ -7,6 +7,7 @@ use Rattle.standard.specs.declared.values.SiteValues.{SiteValues}
 use Rattle.standard.specs.Faults.{Refusal, refusal, Verdict, verdict}
 use Rattle.standard.specs.Sites.{site_refusals, within}
 use Rattle.spectra.specs.Spectra.{code_curve}
+use Rattle.combination.specs.Choice.{chosen, rule_numbered}
 use Rattle.formulas.specs.declared.floor.Floor.{Floor}
 use Rattle.formulas.specs.Buildings.{Mode}
 use Rattle.records.specs.Ordinates.{ordinates_at}
@@ -14,7 +15,6 @@ use Rattle.records.specs.Rows as rows
 use Rattle.records.specs.Rows.{Row, record_of}
 use Rattle.sheet.specs.Ledgers as asks
 use Rattle.sheet.specs.Ledgers.{Asked, Ledger, refusals, opened, step}
-use Rattle.deck.specs.Rules.{meaning_of}
 use Rattle.deck.specs.Terms.{terms_of}
 
 -- what a record is for: the values of a site, or a call on the sheet, at a site, with a refusal of the record's own that is tried before the call's
@@ -30,7 +30,7 @@ deed (rows.reweigh floor weight) = ask [] (λ t. asks.reweigh floor weight)
 deed (rows.mode period count bytes) = ask [] (λ t. asks.mode period count (ordinates_at bytes (min count 40)))
 deed (rows.strike mode) = ask [] (λ t. asks.strike mode)
 deed rows.static = ask [] (λ t. asks.static t (code_curve t.soil))
-deed (rows.modal rule) = ask (refusal NoSuchRule 1 (not (within 1 4 rule)) ∷ []) (λ t. asks.modal t (code_curve t.soil) (meaning_of rule))
+deed (rows.modal rule) = ask (refusal NoSuchRule 1 (not (within 1 4 rule)) ∷ []) (λ t. asks.modal t (code_curve t.soil) (chosen (rule_numbered rule)))
 
 -- what is refused: a site after one was accepted, another record before one was, and then by kind
 abbrev pub grounds : Option SiteTerms → List Floor → List Mode → Deed → List Refusal

@@ -1,5 +1,4 @@
 pub mod Terms
-pub mod Rules
 pub mod Books
 pub mod Desks
 pub mod Prints

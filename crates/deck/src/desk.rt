@@ -1,15 +1,15 @@
 // A desk: the site once one was accepted, and the sheet.
-ghost use Rattle.std.specs.Prelude.{◌≡◌, true, false, [], Some, None, Ok, Err};
+ghost use Rattle.std.specs.Prelude.{◌≡◌, [], Some, None, Ok, Err};
 ghost use Rattle.standard.specs.Faults.{fault};
-ghost use Rattle.standard.specs.Sites.{within};
 ghost use Rattle.spectra.specs.Spectra.{code_curve};
 ghost use Rattle.combination.specs.Choice.{chosen};
+ghost use Rattle.combination.specs.Squared.{squares};
 ghost use Rattle.records.specs.Rows.{record_of, told, mode as mode_row, modal as modal_row};
 ghost use Rattle.sheet.specs.Histories.{asked};
 ghost use Rattle.deck.specs.Books.{accept as accept_deed, ask as ask_deed, deed, blank};
 ghost use Rattle.deck.specs.Desks.{site_in, Does, Takes, DeskStands, CarriesOn};
-ghost use Rattle.deck.specs.Rules.{rule_numbered};
 
+use base_shear::shaking::Shaking;
 use combination::RuleChoice;
 use records::ordinates::decode_ordinates;
 use records::read::read_record;
@@ -20,29 +20,11 @@ use standard::fault::{Fault, Ground};
 use standard::site::Site;
 use standard::values::SiteValues;
 
+// What a deck of records is taken by: the site, none until one is accepted, and the sheet.
 #[derive(Clone, Copy)]
 pub struct Desk {
     site: Option<Site>,
     sheet: Sheet,
-}
-
-// A call that is no modal run asks no rule.
-const ANY: RuleChoice = RuleChoice::SumOfSquares;
-
-// The rule of a number.
-fn rule_of_number(rule: u8) -> Result<RuleChoice, Fault>
-    ensures { elim result [ Ok c ↦ (within 1 4 rule ≡ true) × (c ≡ rule_numbered rule) | Err f ↦ (within 1 4 rule ≡ false) × (f ≡ fault Ground.NoSuchRule 1) ] }
-{
-    match rule {
-        1 => Ok(RuleChoice::SumOfSquares),
-        2 => Ok(RuleChoice::AbsoluteSum),
-        3 => Ok(RuleChoice::GroupedSumOfSquares),
-        4 => Ok(RuleChoice::GroupedAbsoluteSum),
-        _ => Err(Fault {
-            ground: Ground::NoSuchRule,
-            place: 1,
-        }),
-    }
 }
 
 impl Desk {
@@ -67,13 +49,7 @@ impl Desk {
     fn accepted_site(&self) -> Result<Site, Fault>
         ensures { elim result [ Ok s ↦ site_in self.now ≡ Some s.terms | Err f ↦ (site_in self.now ≡ None) × (f ≡ fault Ground.SiteOrder 0) ] }
     {
-        match self.site {
-            Some(site) => Ok(site),
-            None => Err(Fault {
-                ground: Ground::SiteOrder,
-                place: 0,
-            }),
-        }
+        self.site.ok_or(Ground::SiteOrder.at(0))
     }
 
     // The site of these values, where none was accepted before.
@@ -81,10 +57,7 @@ impl Desk {
         ensures { Does self.old (accept_deed values.now) result self.new }
     {
         if self.site.is_some() {
-            return Err(Fault {
-                ground: Ground::SiteOrder,
-                place: 0,
-            });
+            return Err(Ground::SiteOrder.at(0));
         }
         let site = Site::accept(values)?;
         self.site = Some(site);
@@ -92,14 +65,25 @@ impl Desk {
     }
 
     // A call on the sheet, at the site, with the code's curve for its soil.
-    fn ask(&mut self, rule: RuleChoice, call: &Call) -> Result<(), Fault>
+    fn ask_by(&mut self, rule: RuleChoice, call: &Call) -> Result<(), Fault>
         ensures { Does self.old (ask_deed [] (λ t. asked t (code_curve t.soil) (chosen rule) call.now)) result self.new }
     {
         let site = self.accepted_site()?;
-        let curve = CodeCurve {
+        let spectrum = CodeCurve {
             soil: site.terms.soil,
         };
-        perform(&mut self.sheet, &site, &curve, &rule, call)
+        let shaking = Shaking {
+            site: &site,
+            spectrum: &spectrum,
+        };
+        perform(&mut self.sheet, &shaking, &rule, call)
+    }
+
+    // A call that is no modal run, so that any rule serves.
+    fn ask(&mut self, call: &Call) -> Result<(), Fault>
+        ensures { Does self.old (ask_deed [] (λ t. asked t (code_curve t.soil) squares call.now)) result self.new }
+    {
+        self.ask_by(RuleChoice::SumOfSquares, call)
     }
 
     // A modal run by the rule of a number.
@@ -107,38 +91,26 @@ impl Desk {
         ensures { Does self.old (deed (modal_row rule)) result self.new }
     {
         let _ = self.accepted_site()?;
-        let rule = rule_of_number(rule)?;
-        self.ask(rule, &Call::Modal)
+        let rule = RuleChoice::try_from(rule).map_err(|_| Ground::NoSuchRule.at(1))?;
+        self.ask_by(rule, &Call::Modal)
     }
 
     // What a record that was read asks for.
-    fn take_read(&mut self, read: &Record<'_>) -> Result<(), Fault>
-        ensures { Does self.old (deed (told read.now)) result self.new }
+    fn take_read(&mut self, read: Record<'_>) -> Result<(), Fault>
+        ensures { Does self.old (deed (told read.entry)) result self.new }
     {
         match read {
-            Record::Site { values } => self.take_site(values),
-            Record::Floor { height, weight } => self.ask(
-                ANY,
-                &Call::Floor {
-                    height: *height,
-                    weight: *weight,
-                },
-            ),
-            Record::Reweigh { floor, weight } => self.ask(
-                ANY,
-                &Call::Reweigh {
-                    floor: *floor,
-                    weight: *weight,
-                },
-            ),
+            Record::Site { values } => self.take_site(&values),
+            Record::Floor { height, weight } => self.ask(&Call::Floor { height, weight }),
+            Record::Reweigh { floor, weight } => self.ask(&Call::Reweigh { floor, weight }),
             Record::Mode {
                 period,
                 count,
                 ordinates,
-            } => self.take_mode(*period, *count, ordinates),
-            Record::Strike { mode } => self.ask(ANY, &Call::Strike { mode: *mode }),
-            Record::Static => self.ask(ANY, &Call::Static),
-            Record::Modal { rule } => self.take_modal(*rule),
+            } => self.take_mode(period, count, ordinates),
+            Record::Strike { mode } => self.ask(&Call::Strike { mode }),
+            Record::Static => self.ask(&Call::Static),
+            Record::Modal { rule } => self.take_modal(rule),
         }
     }
 
@@ -151,7 +123,7 @@ impl Desk {
             count,
             ordinates: decode_ordinates(ordinates),
         };
-        self.ask(ANY, &Call::Mode { shape })
+        self.ask(&Call::Mode { shape })
     }
 
     // Takes one record, or refuses it and stays as it was.
@@ -160,6 +132,6 @@ impl Desk {
         ensures carries { CarriesOn self.old bytes.now result self.new }
     {
         let record = read_record(bytes)?;
-        self.take_read(&record)
+        self.take_read(record)
     }
 }

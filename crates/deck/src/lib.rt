@@ -5,14 +5,13 @@ ghost use Rattle.deck.specs.Samples.{PrintLaw, FramePrint};
 
 use sheet::samples_stand;
 
-mod answered;
 mod desk;
 mod pages;
 mod whole;
 
-pub use answered::answer_deck;
 pub use desk::Desk;
-pub use whole::take_deck;
+pub use records::read::RECORD_LENGTH;
+pub use whole::{answer_deck, take_deck};
 
 // What a desk prints follows from its records alone, and of a two-storey building it is known.
 pub fn prints_stand() -> u8

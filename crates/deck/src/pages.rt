@@ -2,11 +2,12 @@
 ghost use Rattle.std.specs.Prelude.{◌≡◌, MatchResult};
 ghost use Rattle.print.specs.Writing.{Printed, TooShort};
 ghost use Rattle.sheet.specs.Contents.{reading_of};
-ghost use Rattle.sheet.specs.Faultless.{design_in, force_in};
-ghost use Rattle.deck.specs.Prints.{highest, designs_of, forces_of, sheet_text};
+ghost use Rattle.deck.specs.Prints.{highest, figures_up_to, sheet_text};
 
 use crate::desk::Desk;
-use print::{Storeys, print_storeys};
+use arrayvec::ArrayVec;
+use methods::loads::FLOORS;
+use print::{Figures, Storeys, print_storeys};
 use sheet::Sheet;
 use standard::fault::Fault;
 
@@ -15,42 +16,24 @@ impl Desk {
     pub fn print(&self, buffer: &mut [u8]) -> Result<usize, Fault>
         ensures { MatchResult result (λ n. Printed (sheet_text self.now.sheet) buffer.old buffer.new n) (λ f. TooShort (sheet_text self.now.sheet) buffer.old buffer.new f) }
     {
-        let storeys = storeys_of(self.sheet());
+        let figures = figures_of(self.sheet());
+        let storeys = Storeys {
+            figures: figures.as_slice(),
+        };
         print_storeys(&storeys, buffer)
     }
 }
 
-// Design shear and force of a storey, 0 where it is absent.
-fn figures_of(sheet: &Sheet, storey: u8) -> (u64, i64)
-    ensures design { result.0 ≡ design_in (reading_of sheet.now storey) }
-    ensures force { result.1 ≡ force_in (reading_of sheet.now storey) }
+// The figures of the storeys that a sheet reads, lowest first: where one is absent, so are those above it.
+fn figures_of(sheet: &Sheet) -> ArrayVec<Figures, FLOORS>
+    ensures { result.items ≡ figures_up_to (reading_of sheet.now) (highest (reading_of sheet.now) 40) }
 {
-    match sheet.reading(storey) {
-        Some((_, design, force)) => (design, force),
-        None => (0, 0),
+    let mut figures = ArrayVec::new();
+    for storey in 1..=FLOORS as u8 {
+        let Some((_, design, force)) = sheet.reading(storey) else {
+            return figures;
+        };
+        figures.push(Figures { design, force });
     }
-}
-
-// The storeys that a sheet reads.
-fn storeys_of(sheet: &Sheet) -> Storeys
-    ensures count { result.count ≡ highest (reading_of sheet.now) 40 }
-    ensures design { result.design ≡ designs_of (reading_of sheet.now) 40 }
-    ensures forces { result.forces ≡ forces_of (reading_of sheet.now) 40 }
-{
-    let mut count = 0;
-    let mut design = [0; 40];
-    let mut forces = [0; 40];
-    for i in 0..40u8 {
-        if sheet.reading(i + 1).is_some() {
-            count = i as usize + 1;
-        }
-        let (shear, force) = figures_of(sheet, i + 1);
-        design[i as usize] = shear;
-        forces[i as usize] = force;
-    }
-    Storeys {
-        count,
-        design,
-        forces,
-    }
+    figures
 }

@@ -1,4 +1,4 @@
-use Rattle.std.proofs.Common.{◌≡◌, Some, None, Ok, Option, sym, refl, ap, ◌∙◌}
+use Rattle.std.proofs.Common.{◌≡◌, false, is_some, arith, Some, None, Ok, Option, sym, refl, ap, ◌∙◌}
 use Rattle.std.proofs.lemmas.Bool.{false≢true}
 use Rattle.standard.specs.declared.terms.SiteTerms.{SiteTerms}
 use Rattle.standard.specs.declared.values.SiteValues.{SiteValues}
@@ -9,7 +9,6 @@ use Rattle.deck.specs.declared.desk.Desk.{Desk}
 use Rattle.deck.specs.Books.{accept, grounds}
 use Rattle.deck.specs.Desks.{site_in, Does}
 use Rattle.deck.specs.Terms.{terms_of}
-use Rattle.deck.proofs.Takes.{no_site}
 use Rattle.deck.proofs.TermsBack.{terms_back}
 use Rattle.deck.proofs.desk.Desk.take_site.Goals as goal
 
@@ -25,4 +24,4 @@ taken d d' v t none ok is site sheet =
 pub returns : goal.returns
 returns c =
     let h = c.in_ok-site.ensures in
-    taken c.args.self.now _ c.args.values.now c.in_ok-site.site.terms (no_site c.args.self.now.site (sym c.is_some.ensures ∙ c.if-is_some.false)) h.0 h.1 refl refl
+    taken c.args.self.now _ c.args.values.now c.in_ok-site.site.terms (let none : is_some c.args.self.now.site ≡ false = sym c.is_some.ensures ∙ c.if-is_some.false in grind arith) h.0 h.1 refl refl
