@@ -4,24 +4,22 @@
 ghost use Rattle.std.specs.Prelude.{◌≤◌, IfOk};
 
 use anyhow::anyhow;
-use deck::Desk;
+use deck::{Desk, RECORD_LENGTH};
 use print::{LINE, print_refusal};
 use std::io;
 use std::io::{BufReader, BufWriter, Read, Write};
 use std::process::ExitCode;
 
-const RECORD: usize = 96;
-
-// Forty storeys with the longest numbers take less.
+// Forty storeys with the largest shears and forces that there are take less than 1300 bytes.
 const PAGE: usize = 2048;
 
-// Fills the buffer as far as the input goes, and answers how many bytes came: fewer than 96 only where the input ended.
-fn fill(input: &mut impl Read, buffer: &mut [u8; 96]) -> io::Result<usize>
-    ensures { IfOk result (λ n. n ≤ 96) }
+// Fills the buffer as far as the input goes, and answers how many bytes came: fewer than RECORD_LENGTH only where the input ended.
+fn fill(input: &mut impl Read, buffer: &mut [u8; RECORD_LENGTH]) -> io::Result<usize>
+    ensures { IfOk result (λ n. n ≤ RECORD_LENGTH) }
 {
     let mut have = 0;
-    while have < RECORD {
-        let more = input.read(&mut buffer[have..RECORD])?;
+    while have < RECORD_LENGTH {
+        let more = input.read(&mut buffer[have..RECORD_LENGTH])?;
         if more == 0 {
             break;
         }
@@ -33,10 +31,10 @@ fn fill(input: &mut impl Read, buffer: &mut [u8; 96]) -> io::Result<usize>
 // Takes the records one by one, and writes what is refused: it is out before the program waits for more input.
 fn take_records(rt: &HostRuntime, output: &mut impl Write, desk: &mut Desk) -> anyhow::Result<()> {
     let mut input = BufReader::new(rt.alloc(), rt.stdin())?;
-    let mut buffer = [0; RECORD];
+    let mut buffer = [0; RECORD_LENGTH];
     let mut line = [0; LINE];
     for record in 1..u64::MAX {
-        if input.buffer().len() < RECORD {
+        if input.buffer().len() < RECORD_LENGTH {
             output.flush()?;
         }
         let have = fill(&mut input, &mut buffer)?;
@@ -53,14 +51,12 @@ fn take_records(rt: &HostRuntime, output: &mut impl Write, desk: &mut Desk) -> a
 
 fn print_desk(output: &mut impl Write, desk: &Desk) -> anyhow::Result<()> {
     let mut page = [0; PAGE];
-    match desk.print(&mut page) {
-        Ok(length) => {
-            output.write_all(&page[0..length])?;
-            output.flush()?;
-            Ok(())
-        }
-        Err(_) => Err(anyhow!("the print is longer than its page")),
-    }
+    let length = desk
+        .print(&mut page)
+        .map_err(|_| anyhow!("the print is longer than its page"))?;
+    output.write_all(&page[0..length])?;
+    output.flush()?;
+    Ok(())
 }
 
 fn work(rt: &HostRuntime) -> anyhow::Result<()> {

@@ -3,18 +3,20 @@
 
 mod case;
 mod decks;
-mod parse;
+mod line;
 mod sheets;
+mod tally;
+mod told;
 
 use crate::decks::try_decks;
 use crate::sheets::try_cases;
 
 fn main(rt: HostRuntime) -> anyhow::Result<()> {
     let decks = try_decks(&rt)?;
-    println!(rt; "160 decks, {decks} differ")?;
-    let (sheets, apart) = try_cases(&rt, "sheets.txt")?;
-    println!(rt; "{sheets} lists of calls, {apart} differ")?;
-    let (buildings, apart) = try_cases(&rt, "buildings.txt")?;
-    println!(rt; "{buildings} worked buildings, {apart} differ")?;
+    println!(rt; "{decks}")?;
+    let sheets = try_cases(&rt, "sheets.txt", "lists of calls")?;
+    println!(rt; "{sheets}")?;
+    let buildings = try_cases(&rt, "buildings.txt", "worked buildings")?;
+    println!(rt; "{buildings}")?;
     Ok(())
 }
