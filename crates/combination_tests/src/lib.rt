@@ -3,7 +3,7 @@
 #[cfg(test)]
 mod tests {
     use combination::{
-        AbsoluteSum, Grouping, Response, ResponseList, Rule, RuleChoice, SumOfSquares,
+        AbsoluteSum, Grouping, Response, ResponseList, Rule, RuleChoice, SumOfSquares, UnknownRule,
         combined_at_most_sum, twice_grouped,
     };
     use std::test::Fail;
@@ -105,6 +105,19 @@ mod tests {
             combined(&RuleChoice::GroupedAbsoluteSum, &apart),
             Some(700)
         );
+    }
+
+    #[test]
+    fn by_number(rt: HostRuntime) {
+        assert_eq!(rt; RuleChoice::try_from(0), Err(UnknownRule(0)));
+        assert_eq!(rt; RuleChoice::try_from(1), Ok(RuleChoice::SumOfSquares));
+        assert_eq!(rt; RuleChoice::try_from(2), Ok(RuleChoice::AbsoluteSum));
+        assert_eq!(rt;
+            RuleChoice::try_from(3),
+            Ok(RuleChoice::GroupedSumOfSquares)
+        );
+        assert_eq!(rt; RuleChoice::try_from(4), Ok(RuleChoice::GroupedAbsoluteSum));
+        assert_eq!(rt; RuleChoice::try_from(5), Err(UnknownRule(5)));
     }
 
     #[test]

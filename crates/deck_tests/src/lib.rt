@@ -3,7 +3,7 @@
 
 #[cfg(test)]
 mod tests {
-    use deck::{Desk, answer_deck, take_deck};
+    use deck::{Desk, RECORD_LENGTH, answer_deck, take_deck};
     use standard::fault::{Fault, Ground};
 
     const SITE: [u8; 7] = [b'S', 3, 1, 10, 2, 1, 0];
@@ -24,52 +24,39 @@ mod tests {
         place: 7,
     };
 
-    // The number and place of a refusal, (0, 0) where there is none.
-    fn told(answer: Result<(), Fault>) -> (u8, u32) {
-        match answer {
-            Ok(()) => (0, 0),
-            Err(fault) => (fault.ground.number(), fault.place),
-        }
-    }
-
-    // The same of the answer at a place; there is no number 255.
-    fn told_at(answers: &[Result<(), Fault>], i: usize) -> (u8, u32) {
-        match answers.get(i) {
-            Some(answer) => told(*answer),
-            None => (255, 0),
-        }
+    // The number and place of a refusal.
+    fn told<T>(answer: Result<T, Fault>) -> Result<T, (u8, u32)> {
+        answer.map_err(|fault| (fault.ground.number(), fault.place))
     }
 
     // A record that begins with these bytes, filled up with 0.
-    fn card(bytes: &[u8]) -> [u8; 96] {
-        let mut record = [0; 96];
-        for i in 0..bytes.len().min(96) {
-            record[i] = bytes[i];
-        }
+    fn card(bytes: &[u8]) -> [u8; RECORD_LENGTH] {
+        let mut record = [0; RECORD_LENGTH];
+        let used = bytes.len().min(RECORD_LENGTH);
+        record[..used].copy_from_slice(&bytes[..used]);
         record
+    }
+
+    // A desk after it took these records.
+    fn after(mut desk: Desk, records: &[[u8; RECORD_LENGTH]]) -> Desk {
+        for record in records {
+            let _ = desk.take(record);
+        }
+        desk
     }
 
     // A desk with the site and the two floors.
     fn framed() -> Desk {
-        let mut desk = Desk::new();
-        let _ = desk.take(&card(&SITE));
-        let _ = desk.take(&card(&LOWER));
-        let _ = desk.take(&card(&UPPER));
-        desk
+        after(Desk::new(), &[card(&SITE), card(&LOWER), card(&UPPER)])
     }
 
     // The same, with the two modes and a run.
     fn worked() -> Desk {
-        let mut desk = framed();
-        let _ = desk.take(&card(&SLOW));
-        let _ = desk.take(&card(&QUICK));
-        let _ = desk.take(&card(&RUN));
-        desk
+        after(framed(), &[card(&SLOW), card(&QUICK), card(&RUN)])
     }
 
     // The records of such a desk in one piece, and one byte more.
     fn whole() -> [u8; 577] {
-        let mut deck = [0; 577];
         let records = [
             card(&SITE),
             card(&LOWER),
@@ -78,8 +65,9 @@ mod tests {
             card(&QUICK),
             card(&RUN),
         ];
-        for i in 0..576usize {
-            deck[i] = records[i / 96][i % 96];
+        let mut deck = [0; 577];
+        for (piece, record) in deck.chunks_mut(RECORD_LENGTH).zip(&records) {
+            piece.copy_from_slice(record);
         }
         deck
     }
@@ -94,7 +82,7 @@ mod tests {
                 b'F' | b'W' | b'M' | b'K' | b'E' | b'C' => (4, 0),
                 _ => (2, 0),
             };
-            assert_eq!(rt; answer, wanted);
+            assert_eq!(rt; answer, Err(wanted));
         }
     }
 
@@ -103,7 +91,7 @@ mod tests {
         let record = card(&SITE);
         for n in 0..96u32 {
             let mut desk = Desk::new();
-            assert_eq!(rt; told(desk.take(&record[0..n as usize])), (1, n));
+            assert_eq!(rt; told(desk.take(&record[0..n as usize])), Err((1, n)));
         }
     }
 
@@ -113,17 +101,20 @@ mod tests {
             let mut record = card(&SITE);
             record[place as usize] = 1;
             let mut desk = Desk::new();
-            assert_eq!(rt; told(desk.take(&record)), (3, place));
+            assert_eq!(rt; told(desk.take(&record)), Err((3, place)));
         }
     }
 
     #[test]
     fn site_missing_and_repeated(rt: HostRuntime) {
         let mut desk = Desk::new();
-        assert_eq!(rt; told(desk.take(&card(&LOWER))), (4, 0));
-        assert_eq!(rt; told(desk.take(&card(&[b'S', 3, 1, 11, 2, 1, 0]))), (5, 3));
-        assert_eq!(rt; told(desk.take(&card(&SITE))), (0, 0));
-        assert_eq!(rt; told(desk.take(&card(&SITE))), (4, 0));
+        assert_eq!(rt; told(desk.take(&card(&LOWER))), Err((4, 0)));
+        assert_eq!(rt;
+            told(desk.take(&card(&[b'S', 3, 1, 11, 2, 1, 0]))),
+            Err((5, 3))
+        );
+        assert_eq!(rt; told(desk.take(&card(&SITE))), Ok(()));
+        assert_eq!(rt; told(desk.take(&card(&SITE))), Err((4, 0)));
     }
 
     #[test]
@@ -132,7 +123,7 @@ mod tests {
             let mut desk = framed();
             assert_eq!(rt;
                 told(desk.take(&card(&[b'M', 1, 244, count]))),
-                (12, count as u32)
+                Err((12, count as u32))
             );
         }
     }
@@ -142,22 +133,22 @@ mod tests {
         let mut desk = framed();
         assert_eq!(rt;
             told(desk.take(&card(&[b'M', 1, 244, 2, 128, 0, 0, 1]))),
-            (14, 1)
+            Err((14, 1))
         );
         assert_eq!(rt;
             told(desk.take(&card(&[b'M', 1, 244, 2, 0, 1, 127, 255]))),
-            (14, 2)
+            Err((14, 2))
         );
         assert_eq!(rt;
             told(desk.take(&card(&[b'F', 0, 90, 255, 255, 255, 255]))),
-            (7, 3)
+            Err((7, 3))
         );
         assert_eq!(rt;
             told(desk.take(&card(&[b'W', 2, 255, 255, 255, 255]))),
-            (7, 2)
+            Err((7, 2))
         );
-        assert_eq!(rt; told(desk.take(&card(&[b'C', 0]))), (24, 1));
-        assert_eq!(rt; told(desk.take(&card(&[b'C', 5]))), (24, 1));
+        assert_eq!(rt; told(desk.take(&card(&[b'C', 0]))), Err((24, 1)));
+        assert_eq!(rt; told(desk.take(&card(&[b'C', 5]))), Err((24, 1)));
     }
 
     #[test]
@@ -165,24 +156,20 @@ mod tests {
         let desk = worked();
         let text = b"base 1600\n2 1002 1002\n1 1600 598\n";
         let mut exact = [0; 33];
-        assert_eq!(rt; desk.print(&mut exact).unwrap_or(0), 33);
+        assert_eq!(rt; told(desk.print(&mut exact)), Ok(33));
         assert!(rt; &exact[0..33] == &text[0..33]);
         let mut short = [7; 32];
-        let refused = match desk.print(&mut short) {
-            Ok(_) => (0, 0),
-            Err(fault) => (fault.ground.number(), fault.place),
-        };
-        assert_eq!(rt; refused, (25, 33));
+        assert_eq!(rt; told(desk.print(&mut short)), Err((25, 33)));
         assert!(rt; short == [7; 32]);
         let mut long = [7; 40];
-        assert_eq!(rt; desk.print(&mut long).unwrap_or(0), 33);
+        assert_eq!(rt; told(desk.print(&mut long)), Ok(33));
         assert!(rt; &long[33..40] == &[7; 7][0..7]);
     }
 
     #[test]
     fn whole_deck(rt: HostRuntime) {
         let mut page = [0; 40];
-        assert_eq!(rt; take_deck(&whole()).print(&mut page).unwrap_or(0), 33);
+        assert_eq!(rt; told(take_deck(&whole()).print(&mut page)), Ok(33));
         assert!(rt; &page[0..33] == b"base 1600\n2 1002 1002\n1 1600 598\n".as_slice());
     }
 
@@ -190,7 +177,7 @@ mod tests {
     fn deck_of_a_cut_record(rt: HostRuntime) {
         let cut = card(&SITE);
         let mut page = [0; 5];
-        assert_eq!(rt; take_deck(&cut[0..95]).print(&mut page).unwrap_or(0), 5);
+        assert_eq!(rt; told(take_deck(&cut[0..95]).print(&mut page)), Ok(5));
         assert!(rt; &page[0..5] == b"none\n".as_slice());
     }
 
@@ -199,13 +186,13 @@ mod tests {
         let mut answers = [Err(UNSAID); 8];
         let mut page = [0; 40];
         let desk = answer_deck(&whole(), &mut answers);
-        assert_eq!(rt; desk.print(&mut page).unwrap_or(0), 33);
+        assert_eq!(rt; told(desk.print(&mut page)), Ok(33));
         assert!(rt; &page[0..33] == b"base 1600\n2 1002 1002\n1 1600 598\n".as_slice());
-        for i in 0..6 {
-            assert_eq!(rt; told_at(&answers, i), (0, 0));
+        for answer in &answers[0..6] {
+            assert_eq!(rt; told(*answer), Ok(()));
         }
-        assert_eq!(rt; told_at(&answers, 6), (1, 1));
-        assert_eq!(rt; told_at(&answers, 7), (25, 7));
+        assert_eq!(rt; told(answers[6]), Err((1, 1)));
+        assert_eq!(rt; told(answers[7]), Err((25, 7)));
     }
 
     #[test]
@@ -214,15 +201,15 @@ mod tests {
         let mut answers = [Err(UNSAID); 1];
         let mut page = [0; 5];
         let desk = answer_deck(&cut[0..95], &mut answers);
-        assert_eq!(rt; desk.print(&mut page).unwrap_or(0), 5);
+        assert_eq!(rt; told(desk.print(&mut page)), Ok(5));
         assert!(rt; &page[0..5] == b"none\n".as_slice());
-        assert_eq!(rt; told_at(&answers, 0), (1, 95));
+        assert_eq!(rt; told(answers[0]), Err((1, 95)));
     }
 
     #[test]
     fn no_room_for_answers(rt: HostRuntime) {
         let mut page = [0; 40];
         let desk = answer_deck(&whole(), &mut []);
-        assert_eq!(rt; desk.print(&mut page).unwrap_or(0), 33);
+        assert_eq!(rt; told(desk.print(&mut page)), Ok(33));
     }
 }

@@ -3,7 +3,7 @@
 
 #[cfg(test)]
 mod tests {
-    use base_shear::acceleration::code_base_shear;
+    use base_shear::shaking::Shaking;
     use spectra::curve::{SiteCurve, Step};
     use spectra::spectrum::{CodeCurve, Spectrum};
     use standard::fault::{Fault, Ground};
@@ -24,21 +24,14 @@ mod tests {
         base: 225,
     };
 
-    // The place that a site is refused at, or 0.
-    fn site_place(values: SiteValues) -> u32 {
-        match Site::accept(&values) {
-            Ok(_) => 0,
-            Err(fault) => fault.place,
-        }
+    // The place that a site is refused at, if it is.
+    fn site_place(values: SiteValues) -> Option<u32> {
+        Site::accept(&values).err().map(|fault| fault.place)
     }
 
-    // The place that steps are refused at, or 99.
-    fn curve_place(steps: &[Step]) -> u32 {
-        let mut curve = SiteCurve::new();
-        match curve.fill(steps) {
-            Ok(()) => 99,
-            Err(fault) => fault.place,
-        }
+    // The place that steps are refused at, if they are.
+    fn curve_place(steps: &[Step]) -> Option<u32> {
+        SiteCurve::new().fill(steps).err().map(|fault| fault.place)
     }
 
     fn step(upper: u16, thousandths: u16) -> Step {
@@ -54,57 +47,51 @@ mod tests {
         steps
     }
 
-    // What a spectrum answers, and 0/0 where there is no such period.
-    fn ordinate<S: Spectrum>(spectrum: &S, milliseconds: u32) -> Fraction {
-        match Period::new(milliseconds) {
-            Some(period) => spectrum.at(period),
-            None => Fraction {
-                numerator: 0,
-                denominator: 0,
-            },
-        }
+    // What a spectrum answers, where there is such a period.
+    fn ordinate<S: Spectrum>(spectrum: &S, milliseconds: u32) -> Option<Fraction> {
+        Period::new(milliseconds).map(|period| spectrum.at(period))
     }
 
     #[test]
     fn site_values_off_their_lists(rt: HostRuntime) {
-        assert_eq!(rt; site_place(GOOD), 0);
+        assert_eq!(rt; site_place(GOOD), None);
         for zone in [0, 1, 6, 255] {
-            assert_eq!(rt; site_place(SiteValues { zone, ..GOOD }), 1);
+            assert_eq!(rt; site_place(SiteValues { zone, ..GOOD }), Some(1));
         }
         for soil in [0, 4, 255] {
-            assert_eq!(rt; site_place(SiteValues { soil, ..GOOD }), 2);
+            assert_eq!(rt; site_place(SiteValues { soil, ..GOOD }), Some(2));
         }
         for importance in [0, 9, 11, 12, 14, 16] {
-            assert_eq!(rt; site_place(SiteValues { importance, ..GOOD }), 3);
+            assert_eq!(rt; site_place(SiteValues { importance, ..GOOD }), Some(3));
         }
         for system in [0, 14, 255] {
-            assert_eq!(rt; site_place(SiteValues { system, ..GOOD }), 4);
+            assert_eq!(rt; site_place(SiteValues { system, ..GOOD }), Some(4));
         }
         for plan in [2, 255] {
-            assert_eq!(rt; site_place(SiteValues { plan, ..GOOD }), 6);
+            assert_eq!(rt; site_place(SiteValues { plan, ..GOOD }), Some(6));
         }
     }
 
     #[test]
     fn base_dimensions(rt: HostRuntime) {
         for formula in [0, 4, 255] {
-            assert_eq!(rt; site_place(SiteValues { formula, ..GOOD }), 5);
+            assert_eq!(rt; site_place(SiteValues { formula, ..GOOD }), Some(5));
         }
         for base in [0, 19, 5001, 65535] {
-            assert_eq!(rt; site_place(SiteValues { base, ..GOOD }), 7);
+            assert_eq!(rt; site_place(SiteValues { base, ..GOOD }), Some(7));
         }
         for base in [20, 5000] {
-            assert_eq!(rt; site_place(SiteValues { base, ..GOOD }), 0);
+            assert_eq!(rt; site_place(SiteValues { base, ..GOOD }), None);
         }
         for formula in [1, 2] {
-            assert_eq!(rt; site_place(SiteValues { formula, ..GOOD }), 7);
+            assert_eq!(rt; site_place(SiteValues { formula, ..GOOD }), Some(7));
             assert_eq!(rt;
                 site_place(SiteValues {
                     formula,
                     base: 0,
                     ..GOOD
                 }),
-                0
+                None
             );
         }
     }
@@ -120,8 +107,8 @@ mod tests {
             plan: 9,
             base: 1,
         };
-        assert_eq!(rt; site_place(all_bad), 1);
-        assert_eq!(rt; site_place(SiteValues { zone: 5, ..all_bad }), 2);
+        assert_eq!(rt; site_place(all_bad), Some(1));
+        assert_eq!(rt; site_place(SiteValues { zone: 5, ..all_bad }), Some(2));
         assert_eq!(rt;
             site_place(SiteValues {
                 zone: 5,
@@ -129,7 +116,7 @@ mod tests {
                 importance: 15,
                 ..all_bad
             }),
-            4
+            Some(4)
         );
         assert_eq!(rt;
             site_place(SiteValues {
@@ -137,37 +124,37 @@ mod tests {
                 base: 0,
                 ..GOOD
             }),
-            6
+            Some(6)
         );
     }
 
     #[test]
     fn site_curves_of_too_few_and_too_many_steps(rt: HostRuntime) {
         let mut steps = rising_steps();
-        assert_eq!(rt; curve_place(&steps[0..0]), 0);
-        assert_eq!(rt; curve_place(&steps), 0);
-        assert_eq!(rt; curve_place(&steps[0..32]), 32);
+        assert_eq!(rt; curve_place(&steps[0..0]), Some(0));
+        assert_eq!(rt; curve_place(&steps), Some(0));
+        assert_eq!(rt; curve_place(&steps[0..32]), Some(32));
         steps[31] = step(4000, 8000);
-        assert_eq!(rt; curve_place(&steps[0..32]), 99);
-        assert_eq!(rt; curve_place(&steps[31..32]), 99);
+        assert_eq!(rt; curve_place(&steps[0..32]), None);
+        assert_eq!(rt; curve_place(&steps[31..32]), None);
     }
 
     #[test]
     fn site_curves_of_bad_steps(rt: HostRuntime) {
-        assert_eq!(rt; curve_place(&[step(0, 1000), step(4000, 1)]), 1);
-        assert_eq!(rt; curve_place(&[step(1, 0), step(4000, 1)]), 1);
-        assert_eq!(rt; curve_place(&[step(1, 1), step(4000, 8001)]), 2);
-        assert_eq!(rt; curve_place(&[step(1, 1), step(4000, 8000)]), 99);
+        assert_eq!(rt; curve_place(&[step(0, 1000), step(4000, 1)]), Some(1));
+        assert_eq!(rt; curve_place(&[step(1, 0), step(4000, 1)]), Some(1));
+        assert_eq!(rt; curve_place(&[step(1, 1), step(4000, 8001)]), Some(2));
+        assert_eq!(rt; curve_place(&[step(1, 1), step(4000, 8000)]), None);
         assert_eq!(rt;
             curve_place(&[step(500, 1), step(500, 1), step(4000, 1)]),
-            2
+            Some(2)
         );
         assert_eq!(rt;
             curve_place(&[step(500, 1), step(400, 1), step(4000, 1)]),
-            2
+            Some(2)
         );
-        assert_eq!(rt; curve_place(&[step(500, 1), step(3999, 1)]), 2);
-        assert_eq!(rt; curve_place(&[step(5000, 1), step(6000, 1)]), 2);
+        assert_eq!(rt; curve_place(&[step(500, 1), step(3999, 1)]), Some(2));
+        assert_eq!(rt; curve_place(&[step(5000, 1), step(6000, 1)]), Some(2));
     }
 
     #[test]
@@ -177,7 +164,7 @@ mod tests {
             numerator: 2500,
             denominator: 1000,
         };
-        assert_eq!(rt; ordinate(&curve, 700), level);
+        assert_eq!(rt; ordinate(&curve, 700), Some(level));
         let refused = curve.fill(&[step(700, 3000), step(4000, 9000)]);
         assert_eq!(rt;
             refused,
@@ -186,14 +173,14 @@ mod tests {
                 place: 2,
             })
         );
-        assert_eq!(rt; ordinate(&curve, 700), level);
+        assert_eq!(rt; ordinate(&curve, 700), Some(level));
         curve.fill(&[step(700, 3000), step(4000, 900)])?;
         assert_eq!(rt;
             ordinate(&curve, 700),
-            Fraction {
+            Some(Fraction {
                 numerator: 3000,
                 denominator: 1000,
-            }
+            })
         );
         Ok(())
     }
@@ -212,10 +199,10 @@ mod tests {
         for (t, numerator, denominator) in expected {
             assert_eq!(rt;
                 ordinate(&curve, t),
-                Fraction {
+                Some(Fraction {
                     numerator,
                     denominator,
-                }
+                })
             );
         }
         assert!(rt; Period::new(0).is_none());
@@ -229,11 +216,13 @@ mod tests {
             base: 0,
             ..GOOD
         })?;
-        let curve = CodeCurve {
-            soil: steel.terms.soil,
+        let curve = CodeCurve::from(&steel);
+        let tall = Height { value: 2000 };
+        let shaking = Shaking {
+            site: &steel,
+            spectrum: &curve,
         };
-        let tall = Height { decimetres: 2000 };
-        let refused = code_base_shear(&steel, &curve, tall, 100_000);
+        let refused = shaking.code_base_shear(tall, 100_000);
         assert_eq!(rt;
             refused,
             Err(Fault {
