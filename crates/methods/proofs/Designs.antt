@@ -55,6 +55,13 @@ differences xs ds ss are k l =
 pub shears_more : (c : ℕ → ℕ) (n : ℕ) → shears_up_to c (n + 1) ≡ shears_up_to c n ++ (c (n + 1) ∷ [])
 shears_more c n = ap (shears_up_to c) (add-one n) ∙ ap (λ (m : ℕ). shears_up_to c n ++ (c m ∷ [])) (sym (add-one n))
 
+-- what bounds all of them bounds them with one more, where it bounds that one
+pub bound_more : (most : ℕ) (xs : List ℕ) (x : ℕ) → ((k : ℕ) → k < length xs → get_or xs k 0 ≤ most) → x ≤ most → (k : ℕ) → k < length (xs ++ (x ∷ [])) → get_or (xs ++ (x ∷ [])) k 0 ≤ most
+bound_more most [] x below low zero l = low
+bound_more most [] x below low (suc k) l = omega arith
+bound_more most (y ∷ ys) x below low zero l = below 0 (omega arith)
+bound_more most (y ∷ ys) x below low (suc k) l = bound_more most ys x (λ j m. below (suc j) (omega (arith, m))) low k (omega (arith, l))
+
 pub shears_count : (c : ℕ → ℕ) (n : ℕ) → length (shears_up_to c n) ≡ n
 shears_count c zero = refl
 shears_count c (suc n) = omega (arith, length_push (shears_up_to c n) (c (suc n)), shears_count c n)

@@ -1,5 +1,5 @@
 // The modal method.
-ghost use Rattle.std.specs.Prelude.{◌≡◌, not, ◌&&◌, ◌==◌};
+ghost use Rattle.std.specs.Prelude.{◌≡◌, ◌≤◌, not, ◌&&◌, ◌==◌};
 ghost use Rattle.formulas.specs.Modal.{modal_weights};
 ghost use Rattle.methods.specs.ModalRuns.{ModalAnswers};
 ghost use Rattle.methods.specs.Views.{floors_in, modes_in};
@@ -47,7 +47,8 @@ pub fn run_modal<C: Spectrum, R: Rule>(
 
 // The modal weights of the first storey over all modes.
 fn participating_weight(shapes: &Shapes<'_>) -> u32
-    ensures { result ≡ modal_weights (floors_in shapes.now) (modes_in shapes.now) }
+    ensures is { result ≡ modal_weights (floors_in shapes.now) (modes_in shapes.now) }
+    ensures small { result ≤ 6480000 }
 {
     let mut sum: u32 = 0;
     for row in shapes.rows {

@@ -1,5 +1,5 @@
 // The modal shears of each storey, and what the rule makes of them.
-ghost use Rattle.std.specs.Prelude.{◌≡◌, ◌+◌, length};
+ghost use Rattle.std.specs.Prelude.{◌≡◌, ℕ, ◌+◌, ◌<◌, ◌≤◌, length, slice_index};
 ghost use Rattle.base_shear.specs.Accelerations.{acceleration_of};
 ghost use Rattle.formulas.specs.Modal.{storey_values_of};
 ghost use Rattle.methods.specs.ModalRuns.{modal_combined};
@@ -12,7 +12,7 @@ use crate::motion::Motion;
 use crate::shapes::Shapes;
 use arrayvec::ArrayVec;
 use base_shear::shaking::Shaking;
-use combination::{Response, Responses, Rule};
+use combination::{Response, Responses, Rule, combined_at_most_sum};
 use spectra::spectrum::Spectrum;
 
 // What shakes a building, the modes in which it moves, and the rule that combines them.
@@ -41,17 +41,20 @@ impl<'a, C: Spectrum, R: Rule> Modal<'a, C, R> {
 
     // The combined shear of the storey at place `storey`, from 0.
     fn combined_shear(&self, storey: usize) -> u32
-        ensures { result ≡ modal_combined self.now.shaking.now.site.now.terms (C.Spectrum.ordinate self.now.shaking.now.spectrum.now) (R.Rule.squared self.now.rule.now) (floors_in self.now.shapes.now) (modes_in self.now.shapes.now) (storey + 1) }
+        ensures is { result ≡ modal_combined self.now.shaking.now.site.now.terms (C.Spectrum.ordinate self.now.shaking.now.spectrum.now) (R.Rule.squared self.now.rule.now) (floors_in self.now.shapes.now) (modes_in self.now.shapes.now) (storey + 1) }
+        ensures small { result ≤ 6480000 }
     {
         let values = self.storey_values(storey);
-        self.rule.combine(Responses {
+        let list = Responses {
             items: values.as_slice(),
-        })
+        };
+        combined_at_most_sum(self.rule, list)
     }
 
     // The combined shear of each storey.
     pub(crate) fn combined_shears(&self) -> ArrayVec<u32, FLOORS>
-        ensures { result.items ≡ shears_up_to (modal_combined self.now.shaking.now.site.now.terms (C.Spectrum.ordinate self.now.shaking.now.spectrum.now) (R.Rule.squared self.now.rule.now) (floors_in self.now.shapes.now) (modes_in self.now.shapes.now)) (length (floors_in self.now.shapes.now)) }
+        ensures are { result.items ≡ shears_up_to (modal_combined self.now.shaking.now.site.now.terms (C.Spectrum.ordinate self.now.shaking.now.spectrum.now) (R.Rule.squared self.now.rule.now) (floors_in self.now.shapes.now) (modes_in self.now.shapes.now)) (length (floors_in self.now.shapes.now)) }
+        ensures small { (k : ℕ) → k < length result.items → slice_index result.items k ≤ 6480000 }
     {
         let shapes = self.shapes;
         let mut shears = ArrayVec::new();

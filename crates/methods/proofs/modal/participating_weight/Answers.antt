@@ -37,3 +37,6 @@ pub loop-row-preserved : goal.loop-row-preserved
 loop-row-preserved c =
     let m = more c.args.shapes.now c.loop-row.row-index c.loop-row-test.true c.of-motion.result c.of-motion.ensures.floors c.of-motion.ensures.mode c.modal_weight.result c.modal_weight.ensures c.unsigned_abs-sum.result c.unsigned_abs-sum.ensures.value in
     omega (arith, m, c.loop-row.invariant)
+
+pub returns-clause-small : goal.returns-clause-small
+returns-clause-small c = omega (arith, c.loop-row.invariant, small c.args.shapes.now)

@@ -56,9 +56,9 @@ returns-then-is_still g c =
     let q = g.R.Rule.squared c.args.rule.now in
     let ms = modes_in c.args.shapes.now in
     let l = c.args.shapes.now.loads in
-    let are = c.as_slice-combined.ensures.value ∙ c.combined_shears-shears.ensures in
+    let are = c.as_slice-combined.ensures.value ∙ c.combined_shears-shears.ensures.are in
     let still = still_is s sa q ms l.floors.now l.some _ are _ c.in_ok-code.ensures.1 _ c.is_still.ensures ∙ c.if-is_still.true in
-    let enough : 9 * W c.args.shapes.now.loads.floors.now ≤ 10 * modal_weights c.args.shapes.now.loads.floors.now (modes_in c.args.shapes.now) = omega (arith, c.if-weight-shapes.false, c.participating_weight-weight.ensures, l.summed) in
+    let enough : 9 * W c.args.shapes.now.loads.floors.now ≤ 10 * modal_weights c.args.shapes.now.loads.floors.now (modes_in c.args.shapes.now) = omega (arith, c.if-weight-shapes.false, c.participating_weight-weight.ensures.is, l.summed) in
     no_shear s sa q ms l.floors.now l.some c.in_ok-code.ensures.0 enough still _ c.at-then-is_still.ensures
 
 pub returns : goal.returns
@@ -70,8 +70,8 @@ returns g c =
     let l = c.args.shapes.now.loads in
     let n = length l.floors.now in
     let xs = c.as_slice-combined.result.now in
-    let are = c.as_slice-combined.ensures.value ∙ c.combined_shears-shears.ensures in
+    let are = c.as_slice-combined.ensures.value ∙ c.combined_shears-shears.ensures.are in
     let moves = still_is s sa q ms l.floors.now l.some xs are _ c.in_ok-code.ensures.1 _ c.is_still.ensures ∙ c.if-is_still.false in
-    let enough : 9 * W c.args.shapes.now.loads.floors.now ≤ 10 * modal_weights c.args.shapes.now.loads.floors.now (modes_in c.args.shapes.now) = omega (arith, c.if-weight-shapes.false, c.participating_weight-weight.ensures, l.summed) in
+    let enough : 9 * W c.args.shapes.now.loads.floors.now ≤ 10 * modal_weights c.args.shapes.now.loads.floors.now (modes_in c.args.shapes.now) = omega (arith, c.if-weight-shapes.false, c.participating_weight-weight.ensures.is, l.summed) in
     let h = gives n (modal_combined s sa q l.floors.now ms) c.in_ok-code.code.value _ xs c.outcome_of.result l.some are refl c.outcome_of.ensures.combined c.outcome_of.ensures.design c.outcome_of.ensures.forces in
     (accepted s sa q ms l.floors.now l.some c.in_ok-code.ensures.0 enough moves, subst (λ (code : ℕ). Gives (length c.args.shapes.now.loads.floors.now) (modal_combined s sa q l.floors.now ms) (λ i. design_shear code (modal_combined s sa q l.floors.now ms 1) (modal_combined s sa q l.floors.now ms i)) c.outcome_of.result) c.in_ok-code.ensures.1 h)
