@@ -56,17 +56,30 @@ outcome_reads : (s : Sheet) (c d : ℕ → ℕ) (o : Outcome) → is_run s.stage
 outcome_reads s c d o run e gives i =
     (λ j. cond (run j && within 1 s.table.count i) (Some (figures_of (storey_at (e j) (i - 1)))) None) ∙ shows s.table.count c d o gives i
 
--- an accepted run: floors and modes are as they were, and what its method gives stands on the sheet
-pub ran_to : (s s' : Sheet) (a : Asked) (c d : ℕ → ℕ) (o : Outcome) → verdict (refusals (floors_in s) (modes_in s) a) ≡ Ok tt
+-- an accepted run: it leaves floors and modes as they were
+pub ran : (s s' : Sheet) (a : Asked) → Ok tt ≡ verdict (refusals (floors_in s) (modes_in s) a) → floors_in s' ≡ floors_after (floors_in s) a → modes_in s' ≡ modes_after (modes_in s) a
+    → ((i : ℕ) → reading_of s' i ≡ read_after (floors_after (floors_in s) a) (modes_after (modes_in s) a) a i) → Answers s a (Ok tt) s'
+ran s s' a v fs ms reads =
+    record {
+      answer = v;
+      kept = λ bad. absurd (false≢true bad);
+      floors = λ _. fs;
+      modes = λ _. ms;
+      reads = λ _. reads;
+    }
+
+-- the same, where an outcome stands on it then
+pub ran_to : (s s' : Sheet) (a : Asked) (c d : ℕ → ℕ) (o : Outcome) → Ok tt ≡ verdict (refusals (floors_in s) (modes_in s) a) → floors_in s' ≡ floors_after (floors_in s) a → modes_in s' ≡ modes_after (modes_in s) a
+    → is_run s'.stage ≡ true → s'.storeys ≡ o.storeys → Gives s'.table.count c d o
+    → ((i : ℕ) → shown s'.table.count c d i ≡ read_after (floors_after (floors_in s) a) (modes_after (modes_in s) a) a i) → Answers s a (Ok tt) s'
+ran_to s s' a c d o v fs ms run e gives shows = ran s s' a v fs ms (λ i. outcome_reads s' c d o run e gives i ∙ shows i)
+
+-- the same, where floors and modes are the very ones that were there
+pub ran_in_place : (s s' : Sheet) (a : Asked) (c d : ℕ → ℕ) (o : Outcome) → verdict (refusals (floors_in s) (modes_in s) a) ≡ Ok tt
     → s'.table ≡ s.table → s'.modes ≡ s.modes → is_run s'.stage ≡ true → s'.storeys ≡ o.storeys → Gives (length (floors_in s)) c d o
     → floors_in s ≡ floors_after (floors_in s) a → modes_in s ≡ modes_after (modes_in s) a
     → ((i : ℕ) → shown (length (floors_in s)) c d i ≡ read_after (floors_after (floors_in s) a) (modes_after (modes_in s) a) a i) → Answers s a (Ok tt) s'
-ran_to s s' a c d o v table modes run e gives fs ms shows =
+ran_in_place s s' a c d o v table modes run e gives fs ms shows =
     let n : s'.table.count ≡ length (floors_in s) = ap (λ (t : FloorTable). t.count) table ∙ sym s.held in
-    record {
-      answer = sym v;
-      kept = λ bad. absurd (false≢true bad);
-      floors = λ _. ap floors_of table ∙ fs;
-      modes = λ _. (λ j. modes_held_in (table j).count (modes j)) ∙ ms;
-      reads = λ _ i. outcome_reads s' c d o run e (subst (λ (k : ℕ). Gives k c d o) (sym n) gives) i ∙ ap (λ (k : ℕ). shown k c d i) n ∙ shows i;
-    }
+    ran_to s s' a c d o (sym v) (ap floors_of table ∙ fs) ((λ j. modes_held_in (table j).count (modes j)) ∙ ms) run e
+    (subst (λ (k : ℕ). Gives k c d o) (sym n) gives) (λ i. ap (λ (k : ℕ). shown k c d i) n ∙ shows i)

@@ -6,7 +6,7 @@ use Rattle.sheet.specs.Floors.{counted}
 use Rattle.sheet.specs.Ledgers.{modal}
 use Rattle.sheet.specs.Stages.{is_run}
 use Rattle.sheet.proofs.Counted.{counted_length}
-use Rattle.sheet.proofs.Runs.{ran_to}
+use Rattle.sheet.proofs.Runs.{ran_in_place}
 use Rattle.sheet.proofs.sheet.Sheet.run_modal.Goals as goal
 
 pub returns-clause-answers : goal.returns-clause-answers
@@ -20,4 +20,4 @@ returns-clause-answers g c =
     let seen : ModalAnswers t sa q (floors_seen c.in_ok-shapes.field-0) (modes_seen c.in_ok-shapes.field-0) (Ok c.in_ok-outcome.outcome) = c.in_ok-outcome.ensures in
     let a = rw (c.in_ok-shapes.ensures.1, c.in_ok-shapes.ensures.0) at seen in
     let gives = rw counted_length at a.1 in
-    ran_to s _ (modal t sa q) combined design c.in_ok-outcome.outcome a.0 c.put.ensures.table c.put.ensures.modes (ap is_run c.put.ensures.stage) c.put.ensures.storeys gives refl refl (λ i. refl)
+    ran_in_place s _ (modal t sa q) combined design c.in_ok-outcome.outcome a.0 c.put.ensures.table c.put.ensures.modes (ap is_run c.put.ensures.stage) c.put.ensures.storeys gives refl refl (λ i. refl)
