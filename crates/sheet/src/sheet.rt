@@ -19,12 +19,14 @@ mod reading;
 mod runs;
 
 // The floors from the lowest up, the modes, what the floors weigh together, and what the last run gave of each storey.
+// The stage stands before the total, so that the storeys have no padding before them: with it the compiler copies
+// them out and back wherever a sheet is written whole.
 #[derive(Clone, Copy)]
 pub struct Sheet {
     table: FloorTable,
     modes: ModeTable,
-    total: u32,
     stage: Stage,
+    total: u32,
     storeys: [Storey; FLOORS],
     ghost few: { table.count ≤ most_floors },
     ghost held: { length (floors_of table) ≡ table.count },
