@@ -1,11 +1,14 @@
 -- The steps of a site curve: the verdict on them, and what good ones answer. Assumes nothing.
--- `accepted`, `answered` and `sought_answers` serve the proofs. The lemmas on one step of a walk (`judged_more`, `judged_bad`, `judged_good`,
+-- `accepted`, `answered`, `sought_answers` and `placed_answers` serve the proofs. The lemmas on one step of a walk (`judged_more`, `judged_bad`, `judged_good`,
 -- `last_upper_more`, `judged_all`, `last_upper_all`, `ended`, `found`, `passed`) serve none now: they stand for readers, as what the definitions say step by step.
-use Rattle.std.specs.Prelude.{◌≡◌, ℕ, ◌+◌, ◌<◌, ◌≤◌, Bool, true, false, cond, not, ◌&&◌, List, [], ◌∷◌, ◌++◌, length, get_or, drop, Ok, Err, ◌==◌, nat_le, nat_lt, slice_index_or, Some, find, unwrap_or, refl}
+use Rattle.std.specs.Prelude.{◌≡◌, ℕ, ◌+◌, ◌<◌, ◌≤◌, Bool, true, false, cond, not, ◌&&◌, List, [], ◌∷◌, ◌++◌, length, get_or, drop, Ok, Err, ◌==◌, nat_le, nat_lt, slice_index_or, Some, Option, find, position, unwrap_or, refl}
 use Rattle.std.specs.Option.{option_map}
+use Rattle.std.specs.List.{position_or_len}
 use Rattle.std.proofs.Common.{sym, ap, ◌∙◌, inl, inr, arith}
 use Rattle.std.proofs.lemmas.List.{at_drop_more, drop_all}
-use Rattle.std.proofs.lemmas.Bool.{cases_Bool, and_parts, leb-true, leb-false, le-leb, lt-leb, cond-true, cond-false, eqb-true}
+use Rattle.std.proofs.lemmas.List.Folds.{find_at}
+use Rattle.std.proofs.lemmas.Option.{slice_get-get_or, slice_get_past}
+use Rattle.std.proofs.lemmas.Bool.{cases_lt, lt-ltb, le-ltb, cases_Bool, and_parts, leb-true, leb-false, le-leb, lt-leb, cond-true, cond-false, eqb-true}
 use Rattle.std.proofs.lemmas.Bool.Decides.{nat_tests}
 use Rattle.spectra.specs.declared.curve.Step.{Step}
 use Rattle.standard.specs.declared.fault.Ground.TheVariants.{SiteCurveStep}
@@ -123,3 +126,17 @@ pub ended : (ss : List Step) (i place before : ℕ) → 1 ≤ length ss → leng
 ended ss i place before p q l u v =
     let b : last_upper 0 ss ≡ before = sym u ∙ last_upper_all ss i before l in
     counted ss p q ∙ sym v ∙ judged_all ss i place before (closing ss) l ∙ ap (λ (x : ℕ). cond {A = Verdict} (not (x == 4000)) (Err (fault SiteCurveStep (length ss))) (Ok tt)) b
+
+-- what a step answers that is named by its place, and 0 where none is named
+abbrev pub named_step : List Step → Option ℕ → ℕ
+named_step ss r = unwrap_or (option_map (λ (k : ℕ). (get_or ss k blank).thousandths) r) 0
+
+-- a search finds the place of the step that answers
+pub placed_answers : (ss : List Step) (t : ℕ) → named_step ss (position (λ s. nat_le t s.upper) ss) ≡ thousandths_at ss t
+placed_answers ss t =
+    let p = λ (s : Step). nat_le t s.upper in
+    let answer = λ (o : Option Step). unwrap_or (option_map (λ (s : Step). s.thousandths) o) 0 in
+    elim (cases_lt (position_or_len p ss) (length ss)) [
+      | inl l ↦ ap (named_step ss) (cond-true _ _ _ (lt-ltb _ _ l)) ∙ ap answer (sym (find_at p ss ∙ slice_get-get_or ss _ blank l)) ∙ sought_answers ss t
+      | inr l ↦ ap (named_step ss) (cond-false _ _ _ (le-ltb _ _ l)) ∙ ap answer (sym (find_at p ss ∙ slice_get_past ss _ l)) ∙ sought_answers ss t
+    ]

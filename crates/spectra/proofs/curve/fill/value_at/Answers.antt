@@ -1,15 +1,17 @@
-use Rattle.std.specs.Prelude.{◌≡◌, nat_le, find, unwrap_or}
-use Rattle.std.specs.Option.{option_map}
-use Rattle.std.proofs.Common.{◌∙◌, ap, rules, tests}
+use Rattle.std.specs.Prelude.{nat_le}
+use Rattle.std.proofs.Common.{ap, sym, ◌∙◌, rules, tests}
 use Rattle.std.proofs.lemmas.Iterator.{YieldsList-from_slice}
-use Rattle.std.proofs.lemmas.Iterator.Search.{find_from_yields_List}
-use Rattle.spectra.specs.CurvesLemmas.{sought_answers}
+use Rattle.std.proofs.lemmas.Iterator.Search.{position_from_yields_List}
+use Rattle.spectra.specs.CurvesLemmas.{named_step, placed_answers}
 use Rattle.spectra.proofs.curve.fill.value_at.Goals as goal
 
--- the code searches for the step, and the step that is found answers
+-- the code searches for the step's place, and the step at that place answers
+pub returns-in_default : goal.returns-in_default
+returns-in_default c =
+    let place = position_from_yields_List (λ s. nat_le c.args.milliseconds s.upper) _ _ c.position.result c.position.ensures.ran (YieldsList-from_slice c.args.steps.now cc) (λ x b q k. search (rules, tests)) in
+    ap (named_step c.args.steps.now) (sym c.in_default.is ∙ place) ∙ placed_answers c.args.steps.now c.args.milliseconds
+
 pub returns : goal.returns
 returns c =
-    let found : option_map (λ s. s.now) c.find.result ≡ find (λ s. nat_le c.args.milliseconds s.upper) c.args.steps.now =
-    find_from_yields_List (λ s. nat_le c.args.milliseconds s.upper) _ _ _ c.find.ensures.ran (YieldsList-from_slice c.args.steps.now cc) (λ x b q k. search (rules, tests)) in
-    let given : c.map_or.result ≡ unwrap_or (option_map (λ s. s.thousandths) (option_map (λ s. s.now) c.find.result)) 0 = search (rules, tests) in
-    given ∙ ap (λ o. unwrap_or (option_map (λ s. s.thousandths) o) 0) found ∙ sought_answers c.args.steps.now c.args.milliseconds
+    let place = position_from_yields_List (λ s. nat_le c.args.milliseconds s.upper) _ _ c.position.result c.position.ensures.ran (YieldsList-from_slice c.args.steps.now cc) (λ x b q k. search (rules, tests)) in
+    ap (named_step c.args.steps.now) (sym c.in-Some.is ∙ place) ∙ placed_answers c.args.steps.now c.args.milliseconds
