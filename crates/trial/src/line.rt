@@ -1,7 +1,7 @@
 // What a line of a list of calls says.
 use crate::case::CaseRule;
-use crate::told::Told;
-use anyhow::{Context, anyhow, bail};
+use crate::told::{Refusal, Told};
+use anyhow::{Context, anyhow};
 use combination::{Grouping, RuleChoice};
 use sheet::{Call, ModeShape};
 use spectra::curve::{SiteCurve, Step};
@@ -9,17 +9,18 @@ use standard::fault::Layer;
 use standard::site::Site;
 use standard::values::SiteValues;
 use std::alloc::Global;
+use std::error::Error;
+use std::str::FromStr;
 
 #[derive(Drop)]
 pub enum Line {
     Site(Site),
-    // none is the code's curve
-    Curve(Option<SiteCurve>),
+    Curve(SiteCurve),
     Rule(CaseRule),
     Call(Call),
     Told(Told),
     End,
-    // what only divides a case for its reader
+    // what asks for nothing: it divides a case for its reader, or names the code's curve, which a case has anyway
     Other,
 }
 
@@ -27,50 +28,35 @@ pub enum Line {
 pub fn read_line(heap: Global, words: &[&str]) -> anyhow::Result<Line> {
     Ok(match words {
         ["site", values @ ..] => Line::Site(site(values)?),
-        ["curve", "code"] => Line::Curve(None),
-        ["curve", steps @ ..] => Line::Curve(Some(curve(heap, steps)?)),
+        ["curve", "code", ..] => Line::Other,
+        ["curve", steps @ ..] => Line::Curve(curve(heap, steps)?),
         ["rule", names @ ..] => Line::Rule(rule(names)),
-        ["refused", call, layer, number, place, ..] => Line::Told(Told::Refused {
-            call: call.parse::<usize>()?,
-            layer: layer_of(layer),
-            number: number.parse::<u8>()?,
-            place: place.parse::<u32>()?,
-        }),
-        ["after", call, "none", ..] => Line::Told(Told::Nothing {
-            call: call.parse::<usize>()?,
-        }),
-        ["after", call, "storey", storey, combined, design, force, ..] => Line::Told(
-            Told::Storey {
-                call: call.parse::<usize>()?,
-                storey: storey
-                    .strip_suffix(':')
-                    .context("a storey has no colon")?
-                    .parse::<u8>()?,
-                reading: (
-                    combined.parse::<u64>()?,
-                    design.parse::<u64>()?,
-                    force.parse::<i64>()?,
-                ),
-            },
-        ),
+        ["refused", words @ ..] => Line::Told(refused(words)?),
+        ["after", words @ ..] => Line::Told(after(words)?),
         ["end"] => Line::End,
         _ => call(words)?.map_or(Line::Other, Line::Call),
     })
 }
 
+// The number at a place.
+fn number<T: FromStr>(words: &[&str], i: usize) -> anyhow::Result<T>
+where
+    T::Err: Error,
+{
+    let word = words.get(i).context("a number is missing")?;
+    Ok(word.parse::<T>()?)
+}
+
 // `zone soil importance system formula plan base`
 fn site(words: &[&str]) -> anyhow::Result<Site> {
-    let [zone, soil, importance, system, formula, plan, base, ..] = words else {
-        bail!("a site has fewer than seven values");
-    };
     let values = SiteValues {
-        zone: zone.parse::<u8>()?,
-        soil: soil.parse::<u8>()?,
-        importance: importance.parse::<u8>()?,
-        system: system.parse::<u8>()?,
-        formula: formula.parse::<u8>()?,
-        plan: plan.parse::<u8>()?,
-        base: base.parse::<u16>()?,
+        zone: u8::try_from(number::<u64>(words, 0)?)?,
+        soil: u8::try_from(number::<u64>(words, 1)?)?,
+        importance: u8::try_from(number::<u64>(words, 2)?)?,
+        system: u8::try_from(number::<u64>(words, 3)?)?,
+        formula: u8::try_from(number::<u64>(words, 4)?)?,
+        plan: u8::try_from(number::<u64>(words, 5)?)?,
+        base: u16::try_from(number::<u64>(words, 6)?)?,
     };
     Site::accept(&values).map_err(|_| anyhow!("a stored site is refused"))
 }
@@ -108,6 +94,33 @@ fn rule(names: &[&str]) -> CaseRule {
     }
 }
 
+// `call layer number place`
+fn refused(words: &[&str]) -> anyhow::Result<Told> {
+    Ok(Told::Refused {
+        call: number(words, 0)?,
+        refusal: Refusal {
+            layer: words.get(1).and_then(|name| layer_of(name)),
+            number: number(words, 2)?,
+            place: number(words, 3)?,
+        },
+    })
+}
+
+// `call none`, or `call storey i: combined design force`
+fn after(words: &[&str]) -> anyhow::Result<Told> {
+    let call = number(words, 0)?;
+    let Some(name) = words.get(2) else {
+        return Ok(Told::Storeys { call });
+    };
+    let (storey, _) = name.split_once(':').context("a storey has no colon")?;
+    let reading = (number(words, 3)?, number(words, 4)?, number(words, 5)?);
+    Ok(Told::Storey {
+        call,
+        storey: storey.parse::<u8>()?,
+        reading,
+    })
+}
+
 fn layer_of(name: &str) -> Option<Layer> {
     match name {
         "record" => Some(Layer::Record),
@@ -120,39 +133,35 @@ fn layer_of(name: &str) -> Option<Layer> {
 // A call; none where the line is no call.
 fn call(words: &[&str]) -> anyhow::Result<Option<Call>> {
     Ok(Some(match words {
-        ["floor", height, weight, ..] => Call::Floor {
-            height: height.parse::<u16>()?,
-            weight: weight.parse::<u32>()?,
+        ["floor", words @ ..] => Call::Floor {
+            height: u16::try_from(number::<u64>(words, 0)?)?,
+            weight: u32::try_from(number::<u64>(words, 1)?)?,
         },
-        ["reweigh", floor, weight, ..] => Call::Reweigh {
-            floor: floor.parse::<u8>()?,
-            weight: weight.parse::<u32>()?,
+        ["reweigh", words @ ..] => Call::Reweigh {
+            floor: u8::try_from(number::<u64>(words, 0)?)?,
+            weight: u32::try_from(number::<u64>(words, 1)?)?,
         },
-        ["mode", period, ordinates @ ..] => Call::Mode {
-            shape: shape(period, ordinates)?,
+        ["mode", words @ ..] => Call::Mode {
+            shape: shape(words)?,
         },
-        ["strike", mode, ..] => Call::Strike {
-            mode: mode.parse::<u8>()?,
+        ["strike", words @ ..] => Call::Strike {
+            mode: u8::try_from(number::<u64>(words, 0)?)?,
         },
         ["static", ..] => Call::Static,
         ["modal", ..] => Call::Modal,
-        [
-            "site" | "refused" | "after" | "floor" | "reweigh" | "mode" | "strike",
-            ..
-        ] => { bail!("a line has too few words") }
         _ => return Ok(None),
     }))
 }
 
-// A mode; of more ordinates than 40 only the count is kept.
-fn shape(period: &str, words: &[&str]) -> anyhow::Result<ModeShape> {
+// `period ordinate ..`; of more ordinates than 40 only the count is kept.
+fn shape(words: &[&str]) -> anyhow::Result<ModeShape> {
     let mut ordinates = [0; 40];
-    for (ordinate, word) in ordinates.iter_mut().zip(words) {
-        *ordinate = word.parse::<i16>()?;
+    for (ordinate, word) in ordinates.iter_mut().zip(words.iter().skip(1)) {
+        *ordinate = i16::try_from(word.parse::<i64>()?)?;
     }
     Ok(ModeShape {
-        period: period.parse::<u16>()?,
-        count: u8::try_from(words.len())?,
+        period: u16::try_from(number::<u64>(words, 0)?)?,
+        count: u8::try_from(words.len().saturating_sub(1))?,
         ordinates,
     })
 }

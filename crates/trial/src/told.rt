@@ -1,59 +1,36 @@
-// What is told of a call.
-use sheet::Sheet;
+// What is told of a call. Calls are counted from 1.
 use standard::fault::{Fault, Layer};
 
-// That a call was refused, that no storey reads anything after it, or what a storey reads: combined shear, design shear and force.
-// Calls are counted from 1.
-#[derive(Clone, Copy, PartialEq)]
+// A refusal as it is told; none is a layer of no known name.
+#[derive(Clone, Copy)]
+pub struct Refusal {
+    pub layer: Option<Layer>,
+    pub number: u64,
+    pub place: u64,
+}
+
+// That a call was refused, that the storeys after it are told of, or what one of them reads: combined shear, design shear and force.
+#[derive(Clone, Copy)]
 pub enum Told {
     Refused {
-        call: usize,
-        layer: Option<Layer>,
-        number: u8,
-        place: u32,
+        call: u64,
+        refusal: Refusal,
     },
-    Nothing {
-        call: usize,
+    Storeys {
+        call: u64,
     },
     Storey {
-        call: usize,
+        call: u64,
         storey: u8,
         reading: (u64, u64, i64),
     },
 }
 
-impl Told {
-    pub fn refused(call: usize, fault: Fault) -> Told {
-        Told::Refused {
-            call,
-            layer: Some(fault.ground.layer()),
-            number: fault.ground.number(),
-            place: fault.place,
-        }
+impl Refusal {
+    // Whether this tells of that fault.
+    pub fn is(&self, fault: &Fault) -> bool {
+        self.layer == Some(fault.ground.layer())
+            && self.number == fault.ground.number() as u64
+            && self.place == fault.place as u64
     }
-
-    // The call after which this is what is read.
-    pub fn after(&self) -> Option<usize> {
-        match self {
-            Told::Refused { .. } => None,
-            Told::Nothing { call } | Told::Storey { call, .. } => Some(*call),
-        }
-    }
-}
-
-// Tells of each storey that reads something, the highest first.
-pub fn tell_storeys(told: &mut Vec<Told>, call: usize, sheet: &Sheet) -> anyhow::Result<()> {
-    if !(0..=u8::MAX).any(|storey| sheet.reading(storey).is_some()) {
-        told.push(Told::Nothing { call })?;
-    }
-    for storey in (0..=u8::MAX).rev() {
-        if let Some(reading) = sheet.reading(storey) {
-            told.push(Told::Storey {
-                call,
-                storey,
-                reading,
-            })?;
-        }
-    }
-    Ok(())
 }
